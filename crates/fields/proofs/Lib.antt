@@ -1,0 +1,6 @@
+pub mod Answering
+pub mod Bytes
+pub mod Naming
+pub mod Numbering
+pub mod Reading
+pub mod Saying
