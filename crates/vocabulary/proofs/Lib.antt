@@ -1,0 +1,9 @@
+pub mod Cutting
+pub mod Entering
+pub mod Filled
+pub mod Gridded
+pub mod Known
+pub mod Progressing
+pub mod Pushed
+pub mod Spans
+pub mod Truncated

@@ -1,0 +1,6 @@
+pub mod Grid
+pub mod Cells
+pub mod Vocabulary
+pub mod Counted
+pub mod Parts
+pub mod Record
