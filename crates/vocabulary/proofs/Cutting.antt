@@ -5,11 +5,13 @@ use mathlib.Core.Bool.{true, false}
 use mathlib.Core.List.{List, [], _∷_}
 use Prim.Native.Nat.{ℕ, zero, suc, _+_, _-_, _<_, _≤_}
 use native.Mathlib.Nat.{add-zero, zero-add}
+use native.Mathlib.Numerals.{add-one}
 use native.Mathlib.Omega.{arith}
 use lib.IntN.{ℤ}
 use lib.Signed.{ltZ}
-use lib.ListN.{length}
+use lib.ListN.{length, getD, drop}
 use Rattle.std.specs.declared.option.Option.the-variants.{Some, None}
+use Rattle.std.proofs.shelf.Lists.{at-drop-more, at-drop-all}
 use Rattle.std.proofs.shelf.Tests.{both-ways, cases-bool, cases-order, cond-true, cond-false}
 use Rattle.fields.specs.Words.{rises}
 use Rattle.fields.proofs.Numbering.{ltZ-trans, not-below-itself, rises-later}
@@ -138,3 +140,16 @@ cell-of-cut zs c l r =
     let self : ltZ x x ≡ false = ⊎-elim (λ t. absurd (not-below-itself x t)) (λ t. t) (cases-bool (ltZ x x)) in
     cell-of-first zs x r (suc c)
     (first-of-last zs x r c (record { ended-by-a-cut = l; not-above = self; later-ones-above = λ j h m. rises-later zs c j h m r }))
+
+-- ---- one turn of the loop over cuts
+-- the cut is above: the cell ends here
+pub above : (zs : List ℤ) (i : ℕ) (x d : ℤ) → i < length zs → ltZ x (getD zs i d) ≡ true → cellFrom i (drop i zs) x ≡ endingAt i
+above zs i x d h e = at-drop-more (λ l. cellFrom i l x) zs i d h ∙ rw e
+
+-- it is not: look behind it
+pub under : (zs : List ℤ) (i : ℕ) (x d : ℤ) → i < length zs → ltZ x (getD zs i d) ≡ false → cellFrom i (drop i zs) x ≡ cellFrom (i + 1) (drop (i + 1) zs) x
+under zs i x d h e = at-drop-more (λ l. cellFrom i l x) zs i d h ∙ rw e (ap (λ (j : ℕ). cellFrom j (drop (i + 1) zs) x) (sym (add-one i)))
+
+-- no cut is above
+pub past : (zs : List ℤ) (i : ℕ) (x : ℤ) → length zs ≤ i → cellFrom i (drop i zs) x ≡ None
+past zs i x h = at-drop-all (λ l. cellFrom i l x) zs i h

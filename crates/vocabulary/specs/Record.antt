@@ -10,11 +10,19 @@ use Rattle.refusal.specs.Answers.{toldBy}
 use Rattle.vocabulary.specs.declared.record.Vocabulary.{Vocabulary}
 use Rattle.vocabulary.specs.declared.record.Shape.{Shape}
 use Rattle.vocabulary.specs.Vocabulary.{Attribute, vocabularyOf}
+use Rattle.vocabulary.specs.declared.record.Label.{Label}
+use Rattle.vocabulary.specs.declared.record.Label.the-variants.{Name, Number}
+use Rattle.vocabulary.specs.Lookup as lookup
 use Rattle.vocabulary.specs.Parts.{attributesIn}
 
 -- the attributes of a vocabulary
 abbrev pub attributesOf : Vocabulary → List Attribute
 attributesOf v = attributesIn (v .sheet .now) (v .attributes)
+
+-- what a label of the code names
+abbrev pub labelShown : Label → lookup.Label
+labelShown (Name n) = lookup.by-name (n .now)
+labelShown (Number x) = lookup.by-number x
 
 -- the cell counts of a shape
 abbrev pub countsOf : Shape → List ℕ

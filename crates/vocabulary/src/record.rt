@@ -8,6 +8,7 @@ ghost use Rattle.vocabulary.specs.Vocabulary.{Proper};
 ghost use Rattle.vocabulary.specs.Parts.{attributesIn};
 use crate::attributes::Attributes;
 
+pub mod lookup;
 pub mod reading;
 
 /// The attributes that a sheet names: names are proper and distinct, cuts rise, and the grid fits.
@@ -28,4 +29,13 @@ pub struct Shape {
     ghost sized: { size ≡ grid (take len counts) },
     ghost not_empty: { 0 < size },
     ghost small: { size ≤ 4096 },
+}
+
+/// What names a cell in a request.
+#[derive(Clone, Copy)]
+pub enum Label<'a> {
+    /// A value by its name.
+    Name(&'a [u8]),
+    /// A range by the cut at which it begins.
+    Number(i32),
 }

@@ -1,0 +1,36 @@
+-- Looking things up in a vocabulary.
+use mathlib.Core.List.{List, []}
+use Prim.Native.Nat.{ℕ}
+use lib.IntN.{ℤ, pos}
+use lib.ListN.{getD}
+use Rattle.std.specs.declared.option.Option.{Option}
+use Rattle.std.specs.declared.option.Option.the-variants.{Some, None}
+use Rattle.vocabulary.specs.Cells.{cellOf}
+use Rattle.vocabulary.specs.Vocabulary.{Kind, valued, ranged, Attribute, named, place}
+
+-- no attribute: it has no name and no values
+abbrev pub noAttribute : Attribute
+noAttribute = named [] (valued [])
+
+-- attribute i; none past the last one
+abbrev pub attributeAt : List Attribute → ℕ → Attribute
+attributeAt v i = getD v i noAttribute
+
+-- the cell of a value
+abbrev pub valueCell : Kind → List ℕ → Option ℕ
+valueCell (valued names) w = place w names
+valueCell (ranged zs) w = None
+
+-- the cell of a number
+abbrev pub numberCell : Kind → ℤ → Option ℕ
+numberCell (valued names) x = None
+numberCell (ranged zs) x = cellOf zs x
+
+-- what names cell c in a request: a value's name, or the cut at which the cell begins
+pub data Label : Type 0 where
+  by-name : List ℕ → Label
+  by-number : ℤ → Label
+
+abbrev pub labelOf : Kind → ℕ → Label
+labelOf (valued names) c = by-name (getD names c [])
+labelOf (ranged zs) c = by-number (getD zs c (pos 0))
