@@ -12,7 +12,7 @@ use Rattle.std.proofs.shelf.Lists.{append-nil, take-at, drop-at, take-append-le
 use Rattle.std.proofs.shelf.Tests.{le-leb, leb-true, cond-true}
 use Rattle.std.proofs.shelf.Ways.{tells}
 use Rattle.refusal.specs.Answers.{Told, Answer, refuse, andThen}
-use Rattle.fields.specs.Fields.{Framed, framed, fieldBytes, sheetBytes, sizeIn, sizeAt, fieldAt, reading}
+use Rattle.fields.specs.Fields.{Framed, framed, fieldBytes, sheetBytes, sizeIn, sizeAt, fieldAt, reading, limited}
 use Rattle.fields.proofs.Answering.{not-both, same-value, andThen-same, andThen-value, either-way, Follows}
 
 -- the bytes of two runs of fields are those of the first and then those of the second, by induction over the first
@@ -203,3 +203,17 @@ module _ {S : Type 0} (step : ℕ → S → Framed → Answer S) where
       let next : ℕ = at + length (fieldBytes f) in
       let r = andThen-value (step at s f) (λ x. reading step next x 0 (sheetBytes fs)) s′ (sym (field-read f (sheetBytes fs) at s) ∙ e) in
       (r .0, λ at′. placeless at at′ s f (r .0) (r .1), takes-from-reading placeless fs next (r .0) s′ (r .2))
+
+-- ---- a whole sheet
+module _ {S X : Type 0} (bs : List ℕ) (short : length bs ≤ 65535) (read : Answer S) (end : S → Answer X) where
+  -- a sheet that is not too long is read
+  within-limit : limited bs (andThen read end) ≡ andThen read end
+  within-limit = cond-true (leb (length bs) 65535) (andThen read end) (refuse 14 0) (le-leb (length bs) 65535 short)
+
+  -- a refusal on the way is the answer
+  pub sheet-refused : (t : Told) → read ≡ Err t → limited bs (andThen read end) ≡ Err t
+  sheet-refused t e = within-limit ∙ ap (λ r. andThen r end) e
+
+  -- read to its end, the end decides
+  pub sheet-ended : (s : S) → read ≡ Ok s → limited bs (andThen read end) ≡ end s
+  sheet-ended s e = within-limit ∙ ap (λ r. andThen r end) e

@@ -20,16 +20,16 @@ said (Choice a v) = choice (a .now) (v .now)
 said (Range a f t) = range (a .now) (numberOf (f .now)) (numberOf (t .now))
 said (Measure a n) = measure (a .now) (numberOf (n .now))
 
--- a name or cuts that a field says are its whole content
-abbrev pub WholeContent : List ℕ → Field → Type 0
-WholeContent c (Attribute n) = n .now ≡ c
-WholeContent c (Value n) = n .now ≡ c
-WholeContent c (Cuts b) = (b .now ≡ c) × (length c / 4 ≤ 17)
-WholeContent c (Way b) = Unit {0}
-WholeContent c (Rule b) = Unit {0}
-WholeContent c (Choice a v) = Unit {0}
-WholeContent c (Range a f t) = Unit {0}
-WholeContent c (Measure a n) = Unit {0}
+-- a name or cuts that a field says are its whole content, and its numbers have four bytes
+abbrev pub PartsFit : List ℕ → Field → Type 0
+PartsFit c (Attribute n) = n .now ≡ c
+PartsFit c (Value n) = n .now ≡ c
+PartsFit c (Cuts b) = (b .now ≡ c) × (length c / 4 ≤ 17)
+PartsFit c (Way b) = Unit {0}
+PartsFit c (Rule b) = Unit {0}
+PartsFit c (Choice a v) = Unit {0}
+PartsFit c (Range a f t) = (length (f .now) ≡ 4) × (length (t .now) ≡ 4)
+PartsFit c (Measure a n) = length (n .now) ≡ 4
 
 -- tag and content of a field as it lies in a sheet
 abbrev pub bare : RawField → Framed

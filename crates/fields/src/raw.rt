@@ -5,7 +5,7 @@ ghost use lib.ListN.{length};
 ghost use Rattle.std.specs.Vec.{made};
 ghost use Rattle.refusal.specs.Answers.{answerBy};
 ghost use Rattle.fields.specs.Fields.{fieldAt, nameIn, cutsIn, byteIn, wayIn, choiceSaid, rangeSaid, measureSaid, saidBy, sidesIn, between};
-ghost use Rattle.fields.specs.Shown.{said, bare, found, EndsWithin, WholeContent};
+ghost use Rattle.fields.specs.Shown.{said, bare, found, EndsWithin, PartsFit};
 ghost use Rattle.fields.specs.Parts.{itself, listNow, numbersNow, bothNow};
 use crate::Field;
 use crate::RawField;
@@ -120,7 +120,7 @@ impl<'a> RawField<'a> {
 
     fn choice(&self) -> Result<Field<'a>, Refusal>
         ensures says_what_is_laid_down { λ r. ⌜ answerBy said r ≡ choiceSaid (now (self .entry) .at) (now (now (self .entry) .content)) ⌝ }
-        ensures names_are_whole_contents { λ r. ⌜ made r (WholeContent (now (now (self .entry) .content))) ⌝ }
+        ensures parts_fit { λ r. ⌜ made r (PartsFit (now (now (self .entry) .content))) ⌝ }
     {
         let (attribute, value) = self.sides(3, 33)?;
         if !is_name(value) {
@@ -131,7 +131,7 @@ impl<'a> RawField<'a> {
 
     fn range(&self) -> Result<Field<'a>, Refusal>
         ensures says_what_is_laid_down { λ r. ⌜ answerBy said r ≡ rangeSaid (now (self .entry) .at) (now (now (self .entry) .content)) ⌝ }
-        ensures names_are_whole_contents { λ r. ⌜ made r (WholeContent (now (now (self .entry) .content))) ⌝ }
+        ensures parts_fit { λ r. ⌜ made r (PartsFit (now (now (self .entry) .content))) ⌝ }
     {
         let (attribute, numbers) = self.sides(10, 25)?;
         if numbers.len() != 8 {
@@ -142,7 +142,7 @@ impl<'a> RawField<'a> {
 
     fn measure(&self) -> Result<Field<'a>, Refusal>
         ensures says_what_is_laid_down { λ r. ⌜ answerBy said r ≡ measureSaid (now (self .entry) .at) (now (now (self .entry) .content)) ⌝ }
-        ensures names_are_whole_contents { λ r. ⌜ made r (WholeContent (now (now (self .entry) .content))) ⌝ }
+        ensures parts_fit { λ r. ⌜ made r (PartsFit (now (now (self .entry) .content))) ⌝ }
     {
         let (attribute, number) = self.sides(6, 21)?;
         if number.len() != 4 {
@@ -154,7 +154,7 @@ impl<'a> RawField<'a> {
     /// What the field says.
     pub fn field(&self) -> Result<Field<'a>, Refusal>
         ensures says_what_is_laid_down { λ r. ⌜ answerBy said r ≡ saidBy (now (self .entry) .at) (bare (now (self .entry))) ⌝ }
-        ensures names_are_whole_contents { λ r. ⌜ made r (WholeContent (now (now (self .entry) .content))) ⌝ }
+        ensures parts_fit { λ r. ⌜ made r (PartsFit (now (now (self .entry) .content))) ⌝ }
     {
         match self.tag {
             0x10 => Ok(Field::Attribute(self.name()?)),

@@ -4,7 +4,7 @@ ghost use mathlib.Core.List.{List, map, [], _∷_, _++_};
 ghost use Prim.Native.Nat.{ℕ, _+_, _-_, _*_, _/_, _<_, _≤_};
 ghost use lib.ListN.{length, getD, take, drop};
 ghost use Rattle.fields.specs.Words.{numbersOf};
-ghost use Rattle.fields.specs.Shown.{bare, said, EndsWithin, WholeContent};
+ghost use Rattle.fields.specs.Shown.{bare, said, EndsWithin, PartsFit};
 ghost use Rattle.vocabulary.specs.Vocabulary.{start, wholeSoFar, openAttribute, addValue, inGrid, enter as enterOf, step as stepOf, bounded};
 ghost use Rattle.vocabulary.specs.Counted.{cellsIn};
 ghost use Rattle.vocabulary.specs.Parts.{nameAt, namesIn, cutsIn, attributesIn, progress, Room, Stepped, NamedBy};
@@ -190,7 +190,7 @@ impl Reader {
         requires { ⌜ Room (now self) ⌝ }
         requires { ⌜ EndsWithin (now sheet) (now raw .at) (now raw) ⌝ }
         requires { ⌜ length (now sheet) ≤ 65535 ⌝ }
-        requires { ⌜ WholeContent (now (now raw .content)) field ⌝ }
+        requires { ⌜ PartsFit (now (now raw .content)) field ⌝ }
         ensures { λ r. ⌜ Stepped (now (sheet .entry)) (enterOf (now (raw .entry) .at) (progress (now (sheet .entry)) (now (self .entry))) (said (field .entry))) r (now (self .exit)) ⌝ }
     {
         match (field, self.state) {

@@ -83,24 +83,30 @@ impl<'a> Vocabulary<'a> {
     }
 
     /// The cell of a value of attribute `i`.
-    pub fn value_cell(&self, i: usize, value: &[u8]) -> Option<usize>
+    pub fn value_cell(&self, i: usize, value: &[u8]) -> Option<u8>
         ensures { λ r. ⌜ r ≡ valueCell (attributeAt (attributesOf (now (self .entry))) i .kind) (now (value .entry)) ⌝ }
     {
         let attribute = self.attributes.get(i)?;
         match attribute.kind {
-            Kind::Valued(names) => names.find(self.sheet, value),
+            Kind::Valued(names) => {
+                let cell = names.find(self.sheet, value)?;
+                Some(cell as u8)
+            }
             Kind::Ranged(_) => None,
         }
     }
 
     /// The cell of a number of attribute `i`.
-    pub fn number_cell(&self, i: usize, number: i32) -> Option<usize>
+    pub fn number_cell(&self, i: usize, number: i32) -> Option<u8>
         ensures { λ r. ⌜ r ≡ numberCell (attributeAt (attributesOf (now (self .entry))) i .kind) number ⌝ }
     {
         let attribute = self.attributes.get(i)?;
         match attribute.kind {
             Kind::Valued(_) => None,
-            Kind::Ranged(cuts) => cell(&cuts.numbers[0..cuts.len], number),
+            Kind::Ranged(cuts) => {
+                let cell = cell(&cuts.numbers[0..cuts.len], number)?;
+                Some(cell as u8)
+            }
         }
     }
 

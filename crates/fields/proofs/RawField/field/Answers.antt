@@ -3,4 +3,4 @@ use Rattle.std.proofs.shelf.Ways.{tells}
 use Rattle.fields.proofs.RawField.field.Needs as need
 
 pub returns-in-rest : need.returns-in-rest
-returns-in-rest c = record { says-what-is-laid-down = grind (arith, tells); names-are-whole-contents = tt }
+returns-in-rest c = record { says-what-is-laid-down = grind (arith, tells); parts-fit = tt }

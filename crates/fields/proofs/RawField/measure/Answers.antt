@@ -7,5 +7,5 @@ returns-in-Break-attribute c =
     let p = err-from-errBy (c .from-residual .result) (c .from-residual .ensures .1) in
     record {
       says-what-is-laid-down = handed-on _ _ _ _ _ _ (p .1) (p .2) (c .in-Break-attribute .ensures tt);
-      names-are-whole-contents = made-from-err (c .from-residual .result) _ (c .from-residual .ensures .0);
+      parts-fit = made-from-err (c .from-residual .result) _ (c .from-residual .ensures .0);
     }

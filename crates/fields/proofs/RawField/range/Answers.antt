@@ -17,7 +17,7 @@ returns-in-Break-attribute c =
     let p = err-from-errBy (c .from-residual .result) (c .from-residual .ensures .1) in
     record {
       says-what-is-laid-down = handed-on _ _ _ _ _ _ (p .1) (p .2) (c .in-Break-attribute .ensures tt);
-      names-are-whole-contents = made-from-err (c .from-residual .result) _ (c .from-residual .ensures .0);
+      parts-fit = made-from-err (c .from-residual .result) _ (c .from-residual .ensures .0);
     }
 
 pub returns-then-numbers-ne8 : need.returns-then-numbers-ne8
@@ -26,5 +26,5 @@ returns-then-numbers-ne8 c =
     record {
       says-what-is-laid-down = ap (λ r. Err (toldBy r)) (c .refused .ensures)
           ∙ tested _ (λ x. eqb (length (x .1)) 8) (λ x. Ok (range (x .0) (numberOf (x .1)) (numberOf (drop 4 (x .1))))) _ false _ (c .in-Continue-attribute .ensures tt) n;
-      names-are-whole-contents = tt;
+      parts-fit = tt;
     }

@@ -1,0 +1,4 @@
+pub mod Giving
+pub mod Written
+pub mod Reordering
+pub mod Worked

@@ -1,0 +1,3 @@
+//! Requests: what one says.
+
+pub mod laws;
