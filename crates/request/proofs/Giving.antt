@@ -16,7 +16,7 @@ use Rattle.fields.proofs.Reading.{read-on}
 use Rattle.fields.proofs.Saying.{said-follows}
 use Rattle.vocabulary.specs.Vocabulary.{Kind, valued, Attribute, named, namesOf, place}
 use Rattle.vocabulary.specs.Lookup.{valueCell, numberCell}
-use Rattle.request.specs.Request.{Given, giveOnce, give, take-in, ask, ReadingGoesOn}
+use Rattle.request.specs.Request.{Given, giveOnce, give, takeIn, ask, ReadingGoesOn}
 
 -- this holds of any step
 pub reading-goes-on : ReadingGoesOn
@@ -54,7 +54,7 @@ gave-by-name v at st y a cell e =
     record { index = i; cell = c; was-open = r .0; becomes = r .1; anywhere = λ at′ x n. gives v at′ x a cell i c (p .1) (q .1) n }
 
 -- so does what a field says, for only a choice and a measure give
-gave-by-said : (v : List Attribute) (at : ℕ) (st y : Given) (s : Said) → take-in v at st s ≡ Ok y → Gave (λ at x. take-in v at x s) st y
+gave-by-said : (v : List Attribute) (at : ℕ) (st y : Given) (s : Said) → takeIn v at st s ≡ Ok y → Gave (λ at x. takeIn v at x s) st y
 gave-by-said v at st y (choice a w) e = gave-by-name v at st y a (λ k. valueCell k w) e
 gave-by-said v at st y (measure a x) e = gave-by-name v at st y a (λ k. numberCell k x) e
 gave-by-said v at st y (attribute n) e = absurd (not-both _ y e)
@@ -67,10 +67,10 @@ gave-by-said v at st y (range a x z) e = absurd (not-both _ y e)
 -- so does a field, for what it says does not hang on the place
 pub gave : (v : List Attribute) (at : ℕ) (st y : Given) (f : Framed) → ask v at st f ≡ Ok y → Gave (λ at x. ask v at x f) st y
 gave v at st y f e =
-    either-way (eqb (f .tag) 0x31 || eqb (f .tag) 0x32) (andThen (saidBy at f) (take-in v at st)) (refuse 11 at) (Ok y) (Gave (λ at x. ask v at x f) st y) e
+    either-way (eqb (f .tag) 0x31 || eqb (f .tag) 0x32) (andThen (saidBy at f) (takeIn v at st)) (refuse 11 at) (Ok y) (Gave (λ at x. ask v at x f) st y) e
     (λ t d.
-    let r = andThen-value (saidBy at f) (take-in v at st) y d in
-    let g : Gave (λ at x. take-in v at x (r .0)) st y = gave-by-said v at st y (r .0) (r .2) in
+    let r = andThen-value (saidBy at f) (takeIn v at st) y d in
+    let g : Gave (λ at x. takeIn v at x (r .0)) st y = gave-by-said v at st y (r .0) (r .2) in
     record {
       index = g .index;
       cell = g .cell;
@@ -78,8 +78,8 @@ gave v at st y f e =
       becomes = g .becomes;
       anywhere =
           λ at′ x n.
-          cond-true (eqb (f .tag) 0x31 || eqb (f .tag) 0x32) (andThen (saidBy at′ f) (take-in v at′ x)) (refuse 11 at′) t
-          ∙ ap (λ a. andThen a (take-in v at′ x)) (said-follows at at′ f (r .0) (r .1))
+          cond-true (eqb (f .tag) 0x31 || eqb (f .tag) 0x32) (andThen (saidBy at′ f) (takeIn v at′ x)) (refuse 11 at′) t
+          ∙ ap (λ a. andThen a (takeIn v at′ x)) (said-follows at at′ f (r .0) (r .1))
           ∙ g .anywhere at′ x n;
     })
     (λ t d. absurd (not-both _ y d))

@@ -2,3 +2,5 @@ pub mod Giving
 pub mod Written
 pub mod Reordering
 pub mod Worked
+pub mod Slots
+pub mod Asking

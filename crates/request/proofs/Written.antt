@@ -26,7 +26,7 @@ use Rattle.vocabulary.specs.Vocabulary.{Kind, valued, ranged, Attribute, named,
 use Rattle.vocabulary.proofs.Known.{place-at}
 use Rattle.vocabulary.proofs.Cutting.{cell-of-cut}
 use Rattle.vocabulary.specs.Lookup.{valueCell, numberCell}
-use Rattle.request.specs.Request.{Given, take-in, ask, allGiven, noneGiven, fieldFor, fieldsFor, requestFor, RequestsReadBack}
+use Rattle.request.specs.Request.{Given, takeIn, ask, allGiven, noneGiven, fieldFor, fieldsFor, requestFor, RequestsReadBack}
 use Rattle.request.proofs.Giving.{gives}
 
 -- what stands for an attribute past the last one
@@ -54,7 +54,7 @@ module _ (v : List Attribute) (proper : Proper v) (i : ℕ) (h : i < length v) w
   field-gives (valued names) e c l st n at =
       let q : ProperKind (valued names) = kind-good (valued names) e in
       let w : List ℕ = getD names c [] in
-      ap (λ r. andThen r (take-in v at st)) (choice-written at (getD v i none .name) w name-good (all-getD (λ x. isName x ≡ true) names c [] l (q .2)))
+      ap (λ r. andThen r (takeIn v at st)) (choice-written at (getD v i none .name) w name-good (all-getD (λ x. isName x ≡ true) names c [] l (q .2)))
       ∙ gives v at st (getD v i none .name) (λ k. valueCell k w) i c name-place (ap (λ k. valueCell k w) e ∙ place-at names c l (q .3)) n
   field-gives (ranged zs) e c l st n at =
       let q : ProperKind (ranged zs) = kind-good (ranged zs) e in
@@ -62,7 +62,7 @@ module _ (v : List Attribute) (proper : Proper v) (i : ℕ) (h : i < length v) w
       let l1 : c < length zs - 1 = l in
       let l2 : suc c < length zs = omega arith in
       let fits : SFits w32 z = all-getD (SFits w32) zs c (pos 0) (omega arith) (q .2) in
-      ap (λ r. andThen r (take-in v at st)) (measure-written at (getD v i none .name) z name-good fits)
+      ap (λ r. andThen r (takeIn v at st)) (measure-written at (getD v i none .name) z name-good fits)
       ∙ gives v at st (getD v i none .name) (λ k. numberCell k z) i c name-place (ap (λ k. numberCell k z) e ∙ cell-of-cut zs c l2 (q .3)) n
 
 module _ (whole : List Attribute) (proper : Proper whole) where

@@ -25,25 +25,29 @@ abbrev pub giveOnce : ℕ → Given → ℕ → ℕ → Option ℕ → Answer Gi
 giveOnce at st i c None = Ok (set st i (Some c))
 giveOnce at st i c (Some d) = refuse 25 at
 
+-- attribute i has the cell, and it was not given before
+abbrev pub givenCell : ℕ → Given → ℕ → Option ℕ → Answer Given
+givenCell at st i o = given o 24 at (λ c. giveOnce at st i c (getD st i None))
+
 -- the attribute is known, it has the cell, and it was not given before
 abbrev pub give : List Attribute → ℕ → Given → List ℕ → (Kind → Option ℕ) → Answer Given
 give v at st a cell =
     given (place a (namesOf v)) 23 at
-    (λ i. given (cell (attributeAt v i .kind)) 24 at (λ c. giveOnce at st i c (getD st i None)))
+    (λ i. givenCell at st i (cell (attributeAt v i .kind)))
 
-abbrev pub take-in : List Attribute → ℕ → Given → Said → Answer Given
-take-in v at st (choice a w) = give v at st a (λ k. valueCell k w)
-take-in v at st (measure a x) = give v at st a (λ k. numberCell k x)
-take-in v at st (attribute n) = refuse 11 at
-take-in v at st (value w) = refuse 11 at
-take-in v at st (cuts zs) = refuse 11 at
-take-in v at st (way b) = refuse 11 at
-take-in v at st (rule b) = refuse 11 at
-take-in v at st (range a x y) = refuse 11 at
+abbrev pub takeIn : List Attribute → ℕ → Given → Said → Answer Given
+takeIn v at st (choice a w) = give v at st a (λ k. valueCell k w)
+takeIn v at st (measure a x) = give v at st a (λ k. numberCell k x)
+takeIn v at st (attribute n) = refuse 11 at
+takeIn v at st (value w) = refuse 11 at
+takeIn v at st (cuts zs) = refuse 11 at
+takeIn v at st (way b) = refuse 11 at
+takeIn v at st (rule b) = refuse 11 at
+takeIn v at st (range a x y) = refuse 11 at
 
 -- one field of a request
 abbrev pub ask : List Attribute → ℕ → Given → Framed → Answer Given
-ask v at st f = cond (eqb (f .tag) 0x31 || eqb (f .tag) 0x32) (andThen (saidBy at f) (take-in v at st)) (refuse 11 at)
+ask v at st f = cond (eqb (f .tag) 0x31 || eqb (f .tag) 0x32) (andThen (saidBy at f) (takeIn v at st)) (refuse 11 at)
 
 -- every attribute is given
 abbrev pub allGiven : ℕ → Given → Answer (List ℕ)

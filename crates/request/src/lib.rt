@@ -1,3 +1,4 @@
-//! Requests: what one says.
-
+//! Requests: reading one, and writing one for given cells.
+pub mod given;
 pub mod laws;
+pub mod reading;

@@ -70,7 +70,7 @@ impl Attributes {
 impl<'a> Vocabulary<'a> {
     /// How many attributes there are.
     pub fn len(&self) -> usize
-        ensures { λ r. ⌜ r ≡ length (attributesOf (now (self .entry))) ⌝ }
+        ensures { λ r. ⌜ r ≡ length (attributesOf (now (self .entry))) ⌝ ∗ ⌜ r ≤ 8 ⌝ }
     {
         self.attributes.len
     }
