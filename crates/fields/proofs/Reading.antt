@@ -12,7 +12,7 @@ use Rattle.std.proofs.shelf.Lists.{append-nil, take-at, drop-at, take-append-le
 use Rattle.std.proofs.shelf.Tests.{le-leb, leb-true, cond-true}
 use Rattle.std.proofs.shelf.Ways.{tells}
 use Rattle.refusal.specs.Answers.{Told, Answer, refuse, andThen}
-use Rattle.fields.specs.Fields.{Framed, framed, fieldBytes, sheetBytes, sizeIn, sizeAt, fieldAt, reading}
+use Rattle.fields.specs.Fields.{Framed, framed, fieldBytes, sheetBytes, sizeIn, sizeAt, fieldAt, reading, limited}
 use Rattle.fields.proofs.Answering.{not-both, same-value, andThen-same, andThen-value, either-way, Follows}
 
 -- the bytes of two runs of fields are those of the first and then those of the second, by induction over the first
@@ -203,3 +203,12 @@ module _ {S : Type 0} (step : ℕ → S → Framed → Answer S) where
       let next : ℕ = at + length (fieldBytes f) in
       let r = andThen-value (step at s f) (λ x. reading step next x 0 (sheetBytes fs)) s′ (sym (field-read f (sheetBytes fs) at s) ∙ e) in
       (r .0, λ at′. placeless at at′ s f (r .0) (r .1), takes-from-reading placeless fs next (r .0) s′ (r .2))
+
+-- ---- a sheet that is short enough
+-- what refuses one of its fields refuses it
+pub sheet-refused : {S X : Type 0} (bs : List ℕ) → length bs ≤ 65535 → (r : Answer S) (f : S → Answer X) (t : Told) → r ≡ Err t → limited bs (andThen r f) ≡ Err t
+sheet-refused bs h r f t e = cond-true (leb (length bs) 65535) (andThen r f) (refuse 14 0) (le-leb (length bs) 65535 h) ∙ ap (λ a. andThen a f) e
+
+-- and what its end makes of the last state is its answer
+pub sheet-ended : {S X : Type 0} (bs : List ℕ) → length bs ≤ 65535 → (r : Answer S) (f : S → Answer X) (s : S) → r ≡ Ok s → limited bs (andThen r f) ≡ f s
+sheet-ended bs h r f s e = cond-true (leb (length bs) 65535) (andThen r f) (refuse 14 0) (le-leb (length bs) 65535 h) ∙ ap (λ a. andThen a f) e
