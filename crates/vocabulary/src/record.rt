@@ -1,4 +1,4 @@
-//! A vocabulary that has been read, and its shape.
+//! A vocabulary that has been read, its shape, and one cell an attribute.
 ghost use mathlib.Core.Path.{_≡_};
 ghost use Prim.Native.Nat.{_<_, _≤_};
 ghost use lib.ListN.{length, take};
@@ -8,6 +8,8 @@ ghost use Rattle.vocabulary.specs.Vocabulary.{Proper};
 ghost use Rattle.vocabulary.specs.Parts.{attributesIn};
 use crate::attributes::Attributes;
 
+pub mod cells;
+pub mod grid;
 pub mod lookup;
 pub mod reading;
 
@@ -25,6 +27,7 @@ pub struct Shape {
     counts: [u8; 8],
     len: usize,
     size: usize,
+    ghost few: { len ≤ 8 },
     ghost held: { len ≤ length counts },
     ghost sized: { size ≡ grid (take len counts) },
     ghost not_empty: { 0 < size },
@@ -38,4 +41,13 @@ pub enum Label<'a> {
     Name(&'a [u8]),
     /// A range by the cut at which it begins.
     Number(i32),
+}
+
+/// Up to eight cells, one an attribute, in order.
+#[derive(Clone, Copy)]
+pub struct CellList {
+    cells: [u8; 8],
+    len: usize,
+    ghost few: { len ≤ 8 },
+    ghost held: { len ≤ length cells },
 }
