@@ -4,3 +4,4 @@ pub mod Reordering
 pub mod Worked
 pub mod Slots
 pub mod Asking
+pub mod Collecting

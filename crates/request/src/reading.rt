@@ -8,8 +8,8 @@ ghost use Rattle.fields.specs.Fields.{reading};
 ghost use Rattle.fields.specs.Shown.{bare, said, PartsFit};
 ghost use Rattle.vocabulary.specs.Vocabulary.{namesOf};
 ghost use Rattle.vocabulary.specs.Lookup.{attributeAt, valueCell, numberCell};
-ghost use Rattle.vocabulary.specs.Record.{attributesOf};
-ghost use Rattle.request.specs.Request.{giveOnce, givenCell, takeIn, ask as askOf, noneGiven};
+ghost use Rattle.vocabulary.specs.Record.{attributesOf, cellsOf};
+ghost use Rattle.request.specs.Request.{giveOnce, givenCell, takeIn, ask as askOf, noneGiven, allGiven, requestOf};
 ghost use Rattle.request.specs.Reading.{givenIn, Stepped};
 use crate::given::Given;
 use fields::Field;
@@ -18,7 +18,9 @@ use fields::raw::next_field;
 use fields::words::number;
 use refusal::Cause;
 use refusal::Refusal;
+use vocabulary::record::CellList;
 use vocabulary::record::Vocabulary;
+use vocabulary::record::reading::LONGEST_SHEET;
 
 impl Given {
     /// No attribute is given.
@@ -109,4 +111,36 @@ fn gather(vocabulary: &Vocabulary, request: &[u8]) -> Result<Given, Refusal>
         at = raw.next;
     }
     Ok(given)
+}
+
+/// The cells once the request has ended, with every attribute given.
+fn all_given(given: &Given, end: usize) -> Result<CellList, Refusal>
+    ensures { λ r. ⌜ answerBy cellsOf r ≡ allGiven end (givenIn (now (given .entry))) ⌝ }
+{
+    let mut cells = CellList::none();
+    for i in 0..given.len {
+        let slot = given.cells[i];
+        let Some(cell) = slot else {
+            return Err(Refusal {
+                cause: Cause::MissingAttribute,
+                place: end,
+            });
+        };
+        cells.push(cell);
+    }
+    Ok(cells)
+}
+
+/// The cells that a request gives, one an attribute.
+pub fn read_request(vocabulary: &Vocabulary, request: &[u8]) -> Result<CellList, Refusal>
+    ensures { λ r. ⌜ answerBy cellsOf r ≡ requestOf (attributesOf (now (vocabulary .entry))) (now (request .entry)) ⌝ }
+{
+    if request.len() > LONGEST_SHEET {
+        return Err(Refusal {
+            cause: Cause::SheetTooLong,
+            place: 0,
+        });
+    }
+    let given = gather(vocabulary, request)?;
+    all_given(&given, request.len())
 }
