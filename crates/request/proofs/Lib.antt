@@ -5,3 +5,4 @@ pub mod Worked
 pub mod Slots
 pub mod Asking
 pub mod Collecting
+pub mod Celled

@@ -62,6 +62,10 @@ noneGiven v = replicate (length v) None
 abbrev pub requestOf : List Attribute → List ℕ → Answer (List ℕ)
 requestOf v bs = limited bs (andThen (reading (ask v) 0 (noneGiven v) 0 bs) (allGiven (length bs)))
 
+-- a request that is read gives cells of the shape
+abbrev pub ReadGivesCells : Type 0
+ReadGivesCells = (v : List Attribute) (bs cells : List ℕ) → requestOf v bs ≡ Ok cells → Cells (shapeOf v) cells
+
 -- reading s and then t is reading t from what is given after s
 abbrev pub ReadingGoesOn : Type 0
 ReadingGoesOn =

@@ -1,5 +1,5 @@
 //! Laws of requests, each the contract of a function that does nothing.
-ghost use Rattle.request.specs.Request.{ReadingGoesOn, RequestsReadBack, OrderDoesNotMatter};
+ghost use Rattle.request.specs.Request.{ReadGivesCells, ReadingGoesOn, RequestsReadBack, OrderDoesNotMatter};
 ghost use Rattle.request.specs.Example.{WorkedRequests};
 
 /// A request written for cells is read as these cells, and 288 bytes always do for it.
@@ -20,4 +20,9 @@ pub fn order_does_not_matter()
 /// A worked vocabulary sheet, and requests on both sides of each cut.
 pub fn worked_requests()
     ensures { λ _. ⌜ WorkedRequests ⌝ }
+{}
+
+/// A request that is read gives cells of the vocabulary's shape.
+pub fn read_gives_cells()
+    ensures { λ _. ⌜ ReadGivesCells ⌝ }
 {}

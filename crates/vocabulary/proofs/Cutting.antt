@@ -159,11 +159,11 @@ ending-before : (i c : ℕ) → endingAt i ≡ Some c → c < i
 ending-before zero c e = absurd (not-none c e)
 ending-before (suc j) c e = let z : j ≡ c = cc in omega arith
 
--- a cell that is found is among the cuts
-pub cell-below : (i : ℕ) (zs : List ℤ) (x : ℤ) (c : ℕ) → cellFrom i zs x ≡ Some c → c < i + length zs
-cell-below i [] x c e = absurd (not-none c e)
-cell-below i (z ∷ zs) x c e =
+-- a cell that is found is ended by a cut
+pub cell-ends-within : (i : ℕ) (zs : List ℤ) (x : ℤ) (c : ℕ) → cellFrom i zs x ≡ Some c → suc c < i + length zs
+cell-ends-within i [] x c e = absurd (not-none c e)
+cell-ends-within i (z ∷ zs) x c e =
     ⊎-elim
     (λ (t : ltZ x z ≡ true). let l = ending-before i c (sym (cond-true (ltZ x z) (endingAt i) (cellFrom (suc i) zs x) t) ∙ e) in omega arith)
-    (λ (t : ltZ x z ≡ false). let l = cell-below (suc i) zs x c (sym (cond-false (ltZ x z) (endingAt i) (cellFrom (suc i) zs x) t) ∙ e) in omega arith)
+    (λ (t : ltZ x z ≡ false). let l = cell-ends-within (suc i) zs x c (sym (cond-false (ltZ x z) (endingAt i) (cellFrom (suc i) zs x) t) ∙ e) in omega arith)
     (cases-bool (ltZ x z))
