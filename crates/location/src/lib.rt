@@ -5,6 +5,7 @@ ghost use mathlib.Core.Path.{_≡_};
 ghost use Rattle.location.specs.declared.Failure.the-variants.{Refused, OutOfMemory};
 use refusal::Refusal;
 use std::alloc::Refused;
+use std::fmt;
 use vocabulary::record::CellList;
 
 /// Where a request lies in the grid.
@@ -12,6 +13,18 @@ use vocabulary::record::CellList;
 pub struct Location {
     pub number: usize,
     pub cells: CellList,
+}
+
+/// A location is shown as a line `grid N cells C1 C2 ..`.
+pub impl fmt::Display for Location as LocationDisplay {
+    fn fmt<W: fmt::Write>(&self, f: &mut fmt::Formatter<W>) -> fmt::Result {
+        let number = self.number;
+        write!(f, "grid {number} cells")?;
+        for cell in self.cells.as_slice() {
+            write!(f, " {cell}")?;
+        }
+        Ok(())
+    }
 }
 
 /// Why there is no answer.

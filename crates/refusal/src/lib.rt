@@ -54,6 +54,16 @@ pub struct Refusal {
     pub place: usize,
 }
 
+/// A refusal is shown by its number, its place and the sentence.
+pub impl fmt::Display for Refusal as RefusalDisplay {
+    fn fmt<W: fmt::Write>(&self, f: &mut fmt::Formatter<W>) -> fmt::Result {
+        let number = self.number();
+        let place = self.place;
+        let cause = self.cause;
+        write!(f, "refused {number} {place}: {cause}")
+    }
+}
+
 impl Cause {
     /// The number of this cause.
     pub fn number(self) -> u8
