@@ -7,3 +7,4 @@ pub mod Progressing
 pub mod Pushed
 pub mod Spans
 pub mod Truncated
+pub mod Walked

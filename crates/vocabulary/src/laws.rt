@@ -1,11 +1,16 @@
 //! Laws of vocabularies and cells, each the contract of a function that does nothing.
-ghost use Rattle.vocabulary.specs.Grid.{CellsAndNumbersCorrespond};
+ghost use Rattle.vocabulary.specs.Grid.{CellsAndNumbersCorrespond, CellsAreTested};
 ghost use Rattle.vocabulary.specs.Cells.{CellIsOfTheLastCutNotAbove, WorkedCells};
 ghost use Rattle.vocabulary.specs.Vocabulary.{ReadingGoesOn, WhatIsReadIsProper};
 
 /// Cells and grid numbers correspond one to one.
 pub fn cells_and_numbers_correspond()
     ensures { λ _. ⌜ CellsAndNumbersCorrespond ⌝ }
+{}
+
+/// What passes the test of cells is cells of the shape, and nothing else passes.
+pub fn cells_are_tested()
+    ensures { λ _. ⌜ CellsAreTested ⌝ }
 {}
 
 /// The cell of a number is that of the last cut not above it; below the first cut and from the last one on there is none.

@@ -1,4 +1,4 @@
-//! A vocabulary that has been read, and its shape.
+//! A vocabulary that has been read, its shape, and one cell an attribute.
 ghost use mathlib.Core.Path.{_≡_};
 ghost use Prim.Native.Nat.{_<_, _≤_};
 ghost use lib.ListN.{length, take};
@@ -8,6 +8,8 @@ ghost use Rattle.vocabulary.specs.Vocabulary.{Proper};
 ghost use Rattle.vocabulary.specs.Parts.{attributesIn};
 use crate::attributes::Attributes;
 
+pub mod cells;
+pub mod grid;
 pub mod reading;
 
 /// The attributes that a sheet names: names are proper and distinct, cuts rise, and the grid fits.
@@ -24,8 +26,18 @@ pub struct Shape {
     counts: [u8; 8],
     len: usize,
     size: usize,
+    ghost few: { len ≤ 8 },
     ghost held: { len ≤ length counts },
     ghost sized: { size ≡ grid (take len counts) },
     ghost not_empty: { 0 < size },
     ghost small: { size ≤ 4096 },
+}
+
+/// Up to eight cells, one an attribute, in order.
+#[derive(Clone, Copy)]
+pub struct CellList {
+    cells: [u8; 8],
+    len: usize,
+    ghost few: { len ≤ 8 },
+    ghost held: { len ≤ length cells },
 }
