@@ -7,7 +7,8 @@ use Rattle.vocabulary.proofs.record.Shape.cells.Given as given
 
 abbrev pub Inv-loop-i : given.InvT-loop-i
 Inv-loop-i l =
-    (l .size ≡ grid (drop (l .i) (l .counts)))
+    (l .number < grid (l .counts))
+    × (l .size ≡ grid (drop (l .i) (l .counts)))
     × (l .rest < l .size)
     × (cellsAt (l .counts) (l .number) ≡ take (l .i) (l .cells) ++ cellsAt (drop (l .i) (l .counts)) (l .rest))
     × (length (l .cells) ≡ 8)

@@ -19,11 +19,12 @@ loop-i-again c =
     let i = c .loop-i .i in
     let room : i < length (c .loop-i .counts) = omega arith in
     let inside : i < length (v .items) = search needs in (
+      omega arith,
       take-more-set _ _ _ room
-          ∙ ap (λ r. r ++ c .cells .result ∷ []) (c .loop-i .inv .0)
+          ∙ ap (λ r. r ++ c .cells .result ∷ []) (c .loop-i .inv .1)
           ∙ ap (λ n. countsIn (take i (v .items)) ++ n ∷ []) (c .cells .ensures .0)
           ∙ sym (map-more (λ (a : Attribute). cellsIn (a .kind)) (v .items) i (c .index-self-i .result) inside),
-      length-set _ _ _ ∙ c .loop-i .inv .1,
+      length-set _ _ _ ∙ c .loop-i .inv .2,
     )
 
 -- at the end all counts are filled in
@@ -34,11 +35,11 @@ pub ghost-result : need.ghost-result
 ghost-result c =
     let v = c .args .self .now .attributes in
     let few : v .len ≤ 8 = v .few in
-    let filled = all (c .loop-i .counts) (v .items) (c .loop-i-test .left) (c .loop-i .kept .i-end) (c .loop-i .inv .0) in
+    let filled = all (c .loop-i .counts) (v .items) (c .loop-i-test .left) (c .loop-i .inv .0) (c .loop-i .inv .1) in
     let full : 0 < v .size = subst (λ (n : ℕ). 0 < n) (size-of (c .args .self .now .sheet .now) v) (grid-positive _ (proper-out (c .args .self .now .proper) .kinds-are-proper)) in
     (few, (omega arith, (v .sized ∙ ap grid (sym filled), (full, (v .small, tt)))))
 
 pub returns : need.returns
 returns c =
     let v = c .args .self .now .attributes in
-    all (c .loop-i .counts) (v .items) (c .loop-i-test .left) (c .loop-i .kept .i-end) (c .loop-i .inv .0) ∙ sym (shape-of (c .args .self .now .sheet .now) (take (v .len) (v .items)))
+    all (c .loop-i .counts) (v .items) (c .loop-i-test .left) (c .loop-i .inv .0) (c .loop-i .inv .1) ∙ sym (shape-of (c .args .self .now .sheet .now) (take (v .len) (v .items)))
