@@ -1,4 +1,4 @@
 //! Requests: reading one, and writing one for given cells.
-pub mod given;
+mod given;
 pub mod laws;
 pub mod reading;

@@ -1,7 +1,7 @@
 //! Vocabularies: attributes with named values or rising cuts, their cells, shape and grid numbers.
-pub mod attributes;
+mod attributes;
 pub mod laws;
-pub mod names;
-pub mod parts;
-pub mod reader;
+mod names;
+mod parts;
+mod reader;
 pub mod record;

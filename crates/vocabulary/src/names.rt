@@ -11,7 +11,7 @@ use crate::parts::Names;
 use crate::parts::Span;
 
 /// The name at a span; what would stand past the end of the sheet is left out.
-pub fn name_at<'a>(sheet: &'a [u8], span: Span) -> &'a [u8]
+pub(crate) fn name_at<'a>(sheet: &'a [u8], span: Span) -> &'a [u8]
     ensures { λ r. ⌜ now r ≡ nameAt (now (sheet .entry)) span ⌝ }
 {
     let from = sheet.len().min(span.from as usize);
@@ -58,7 +58,7 @@ fn find<T: Named>(sheet: &[u8], items: &[T], name: &[u8]) -> Option<usize>
 
 impl Names {
     /// Where a name stands among these.
-    pub fn find(&self, sheet: &[u8], name: &[u8]) -> Option<usize>
+    pub(crate) fn find(&self, sheet: &[u8], name: &[u8]) -> Option<usize>
         ensures { λ r. ⌜ r ≡ place (now (name .entry)) (namesIn (now (sheet .entry)) (now (self .entry))) ⌝ }
     {
         find(sheet, &self.spans[0..self.len], name)
@@ -67,7 +67,7 @@ impl Names {
 
 impl Attributes {
     /// Where the attribute of this name stands.
-    pub fn find(&self, sheet: &[u8], name: &[u8]) -> Option<usize>
+    pub(crate) fn find(&self, sheet: &[u8], name: &[u8]) -> Option<usize>
         ensures { λ r. ⌜ r ≡ place (now (name .entry)) (namesOf (attributesIn (now (sheet .entry)) (now (self .entry)))) ⌝ }
     {
         find(sheet, &self.items[0..self.len], name)

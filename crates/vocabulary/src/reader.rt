@@ -63,7 +63,7 @@ impl Cuts {
 
 impl Kind {
     /// How many cells there are.
-    pub fn cells(self) -> usize
+    pub(crate) fn cells(self) -> usize
         ensures { λ r. ⌜ r ≡ cellsIn self ⌝ ∗ ⌜ r ≤ 16 ⌝ }
     {
         match self {
@@ -74,7 +74,7 @@ impl Kind {
 }
 
 impl Attributes {
-    pub fn none() -> Attributes
+    pub(crate) fn none() -> Attributes
         ensures { λ r. ⌜ r .len ≡ 0 ⌝ }
     {
         let blank = Attribute {
@@ -101,7 +101,7 @@ impl Attributes {
 
 impl Reader {
     /// Before the first field.
-    pub fn new() -> Reader
+    pub(crate) fn new() -> Reader
         ensures { λ r. ⌜ ((bs : List ℕ) → progress bs r ≡ start) ⌝ ∗ ⌜ Room r ⌝ }
     {
         Reader {
@@ -111,7 +111,7 @@ impl Reader {
     }
 
     /// The attribute that is being read is whole, if it has cells.
-    pub fn close(&mut self)
+    pub(crate) fn close(&mut self)
         requires { ⌜ Room (now self) ⌝ }
         ensures { λ _. ⌜ ((bs : List ℕ) → attributesIn bs (now (self .exit) .whole) ≡ wholeSoFar (progress bs (now (self .entry)))) ⌝ }
     {
@@ -215,7 +215,7 @@ impl Reader {
     }
 
     /// One field: whether its tag may follow depends on what came before.
-    pub fn step(&mut self, sheet: &[u8], raw: &RawField) -> Result<(), Refusal>
+    pub(crate) fn step(&mut self, sheet: &[u8], raw: &RawField) -> Result<(), Refusal>
         requires { ⌜ Room (now self) ⌝ }
         requires { ⌜ EndsWithin (now sheet) (now raw .at) (now raw) ⌝ }
         requires { ⌜ length (now sheet) ≤ 65535 ⌝ }

@@ -20,7 +20,7 @@ use crate::record::Label;
 use crate::record::Vocabulary;
 
 /// The cell of `x` among rising cuts: that of the last cut that is not above it.
-pub fn cell(cuts: &[i32], x: i32) -> Option<usize>
+fn cell(cuts: &[i32], x: i32) -> Option<usize>
     ensures { λ r. ⌜ r ≡ cellOf (now (cuts .entry)) x ⌝ }
 {
     for (i, cut) in cuts.iter().enumerate() {
