@@ -50,14 +50,6 @@ number-is (a ∷ b ∷ c ∷ d ∷ bs) (suc i) h =
     let n : 4 * suc i ≡ suc (suc (suc (suc (4 * i)))) = omega arith in
     number-is bs i (omega arith) ∙ sym (ap (λ (m : ℕ). numberOf (take 4 (drop m (a ∷ b ∷ c ∷ d ∷ bs)))) n)
 
--- there is a number for every four bytes
-pub how-many : (bs : List ℕ) → length (numbersOf bs) ≡ length bs / 4
-how-many [] = refl
-how-many (a ∷ []) = refl
-how-many (a ∷ b ∷ []) = refl
-how-many (a ∷ b ∷ c ∷ []) = refl
-how-many (a ∷ b ∷ c ∷ d ∷ bs) = ap suc (how-many bs) ∙ omega arith
-
 -- the next number is above: go on behind it
 pub rises-more : (zs : List ℤ) (i : ℕ) → suc i < length zs → ltZ (getD zs i (pos 0)) (getD zs (suc i) (pos 0)) ≡ true → rises (drop i zs) ≡ rises (drop (suc i) zs)
 rises-more [] i h e = absurd (omega arith)

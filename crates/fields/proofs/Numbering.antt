@@ -54,22 +54,6 @@ length-numbers (a ∷ b ∷ []) = refl
 length-numbers (a ∷ b ∷ c ∷ []) = refl
 length-numbers (a ∷ b ∷ c ∷ d ∷ bs) = ap suc (length-numbers bs) ∙ omega arith
 
--- number i stands in the four bytes from 4 * i on
-pub number-at : (bs : List ℕ) (i : ℕ) → 4 * i + 4 ≤ length bs
-    → getD (numbersOf bs) i (pos 0) ≡ toZ w32 (getD bs (4 * i) 0 * 16777216 + getD bs (4 * i + 1) 0 * 65536 + getD bs (4 * i + 2) 0 * 256 + getD bs (4 * i + 3) 0)
-number-at [] i h = absurd (omega arith)
-number-at (a ∷ []) i h = absurd (omega arith)
-number-at (a ∷ b ∷ []) i h = absurd (omega arith)
-number-at (a ∷ b ∷ c ∷ []) i h = absurd (omega arith)
-number-at (a ∷ b ∷ c ∷ d ∷ bs) zero h = refl
-number-at (a ∷ b ∷ c ∷ d ∷ bs) (suc i) h =
-    let byte = getD (a ∷ b ∷ c ∷ d ∷ bs) in
-    let n : 4 * suc i ≡ suc (suc (suc (suc (4 * i)))) = omega arith in
-    let n1 : 4 * suc i + 1 ≡ suc (suc (suc (suc (4 * i + 1)))) = omega arith in
-    let n2 : 4 * suc i + 2 ≡ suc (suc (suc (suc (4 * i + 2)))) = omega arith in
-    let n3 : 4 * suc i + 3 ≡ suc (suc (suc (suc (4 * i + 3)))) = omega arith in
-    number-at bs i (omega arith) ∙ sym (λ j. toZ w32 (byte (n j) 0 * 16777216 + byte (n1 j) 0 * 65536 + byte (n2 j) 0 * 256 + byte (n3 j) 0))
-
 -- bits of a number that fits stay below 2 to the 32
 pub bits-below : (z : ℤ) → SFits w32 z → ofZ w32 z < 4294967296
 bits-below (pos n) f = let h = f .sfits in omega arith

@@ -8,7 +8,8 @@ use lib.ListN.{getD, take, drop}
 use borrow.Author.Needs.{needs}
 use Rattle.std.proofs.shelf.Signed.{toZ-ofZ}
 use Rattle.fields.specs.Words.{numberOf, numbersOf}
-use Rattle.fields.proofs.Bytes.{number-is, how-many}
+use Rattle.fields.proofs.Numbering.{length-numbers}
+use Rattle.fields.proofs.Bytes.{number-is}
 use Rattle.vocabulary.proofs.Filled.{filled, front-is}
 use Rattle.vocabulary.proofs.parts.Cuts.read.Needs as need
 
@@ -24,5 +25,5 @@ loop-i-again c =
 
 pub returns : need.returns
 returns c =
-    let n = how-many (c .args .bytes .now) in
+    let n = length-numbers (c .args .bytes .now) in
     front-is (pos 0) _ _ _ (omega arith) n (λ k h. c .loop-i .inv .1 k (omega arith))
