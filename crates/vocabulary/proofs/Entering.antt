@@ -58,7 +58,7 @@ pub how-many-cuts : (c : Cuts) → length (cutsIn c) ≡ c .len
 how-many-cuts c = let h = c .held in simp length-take (omega arith)
 
 -- the cells of an attribute are those that the code counts
-count-cells : (bs : List ℕ) (k : Kind) → count (kindIn bs k) ≡ cellsIn k
+pub count-cells : (bs : List ℕ) (k : Kind) → count (kindIn bs k) ≡ cellsIn k
 count-cells bs (Valued n) = how-many-names bs n
 count-cells bs (Ranged c) = ap (λ (m : ℕ). m - 1) (how-many-cuts c)
 

@@ -6,7 +6,7 @@ ghost use lib.IntN.{pos};
 ghost use lib.ListN.{length, getD};
 ghost use Rattle.std.specs.Options.{Cases};
 ghost use Rattle.vocabulary.specs.Cells.{cellOf};
-ghost use Rattle.vocabulary.specs.Vocabulary.{place, namesOf};
+ghost use Rattle.vocabulary.specs.Vocabulary.{place, namesOf, count as countOf};
 ghost use Rattle.vocabulary.specs.Lookup.{noAttribute, attributeAt, valueCell, numberCell, labelOf};
 ghost use Rattle.vocabulary.specs.Parts.{namesIn, cutsIn, attributeIn, attributesIn};
 ghost use Rattle.vocabulary.specs.Record.{attributesOf, labelShown};
@@ -117,6 +117,16 @@ impl<'a> Vocabulary<'a> {
         match self.attributes.get(i) {
             Some(attribute) => name_at(self.sheet, attribute.name),
             None => &[],
+        }
+    }
+
+    /// How many cells attribute `i` has, 0 past the last one.
+    pub fn count(&self, i: usize) -> usize
+        ensures { λ r. ⌜ r ≡ countOf (attributeAt (attributesOf (now (self .entry))) i .kind) ⌝ }
+    {
+        match self.attributes.get(i) {
+            Some(attribute) => attribute.kind.cells(),
+            None => 0,
         }
     }
 
