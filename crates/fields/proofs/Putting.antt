@@ -1,11 +1,12 @@
 -- Writing one run of bytes after the other.
 use mathlib.Core.Path.{_≡_, refl, sym, ap, ap₂, _∙_}
 use mathlib.Core.List.{List, [], _∷_, _++_, append-assoc}
-use Prim.Native.Nat.{ℕ, suc, _+_, _-_, _/_, _%_, _≤_}
+use Prim.Native.Nat.{ℕ, _+_, _-_, _/_, _%_, _≤_}
 use native.Mathlib.Omega.{arith}
 use lib.ListN.{length, take, drop, length-append}
 use borrow.Rule.Slice.PartMut.{putMid}
 use Rattle.std.specs.shelf.Lists.{paste}
+use Rattle.std.proofs.shelf.Lists.{take-append-drop}
 use Rattle.std.proofs.shelf.Parts.{putMid-paste}
 use Rattle.std.proofs.shelf.Edits.{paste-all, paste-paste}
 use Rattle.fields.specs.Fields.{framed, fieldBytes}
@@ -17,6 +18,10 @@ module _ (out : List ℕ) (at : ℕ) where
   part-written part bytes e =
       let n : length bytes ≡ at + length bytes - at = omega arith in
       putMid-paste at (at + length bytes - at) out part bytes (length bytes) e n refl ∙ paste-all out at bytes (length bytes) refl
+
+  -- nothing written leaves memory as it was
+  pub written-none : written out at [] ≡ out
+  written-none = ap (λ n. take at out ++ drop n out) (omega arith) ∙ take-append-drop at out
 
   -- what is written right after a run makes the run longer
   pub written-on : (s t : List ℕ) → at ≤ length out → written (written out at s) (at + length s) t ≡ written out at (s ++ t)

@@ -15,7 +15,7 @@ fn head(tag: u8, size: usize) -> [u8; 3]
 }
 
 /// Writes bytes at a place, and answers the place after them.
-fn put(out: &mut [u8], at: usize, bytes: &[u8]) -> usize
+pub fn put(out: &mut [u8], at: usize, bytes: &[u8]) -> usize
     requires { ⌜ at + length (now bytes) ≤ length (now out) ⌝ }
     ensures answers_the_place_after { λ r. ⌜ r ≡ at + length (now (bytes .entry)) ⌝ }
     ensures bytes_are_written { λ _. ⌜ now (out .exit) ≡ written (now (out .entry)) at (now (bytes .entry)) ⌝ }

@@ -2,3 +2,4 @@ pub mod Giving
 pub mod Written
 pub mod Reordering
 pub mod Worked
+pub mod Piecewise

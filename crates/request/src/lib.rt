@@ -1,3 +1,4 @@
-//! Requests: what one says.
+//! Requests: what one says, and writing one for given cells.
 
 pub mod laws;
+pub mod writing;
