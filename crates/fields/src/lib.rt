@@ -1,6 +1,7 @@
 //! The fields of a sheet: a tag byte, a length in two bytes with the high byte first, and the content.
 pub mod raw;
 pub mod words;
+pub mod write;
 
 /// What a field says; its parts are borrowed from the sheet.
 #[derive(Clone, Copy)]

@@ -3,7 +3,7 @@ ghost use mathlib.Core.Path.{_≡_};
 ghost use Prim.Native.Nat.{ℕ, _+_, _*_, _≤_};
 ghost use lib.ListN.{length, getD};
 ghost use lib.IntN.{pos};
-ghost use Rattle.fields.specs.Words.{nameByte, nameBytes, isName, before, sides, numberOf, numbersOf, rises};
+ghost use Rattle.fields.specs.Words.{nameByte, nameBytes, isName, before, sides, numberOf, numberBytes, numbersOf, rises};
 ghost use Rattle.fields.specs.Parts.{pairNow};
 
 fn is_name_byte(b: u8) -> bool
@@ -67,6 +67,13 @@ pub fn number(s: &[u8]) -> i32
     ensures { λ r. ⌜ r ≡ numberOf (now (s .entry)) ⌝ }
 {
     i32::from_be_bytes([s[0], s[1], s[2], s[3]])
+}
+
+/// The four bytes of a number.
+pub fn number_bytes(x: i32) -> [u8; 4]
+    ensures { λ r. ⌜ r ≡ numberBytes x ⌝ }
+{
+    x.to_be_bytes()
 }
 
 /// Number `i` of numbers that stand one after the other.

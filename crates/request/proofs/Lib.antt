@@ -6,3 +6,4 @@ pub mod Slots
 pub mod Asking
 pub mod Collecting
 pub mod Celled
+pub mod Piecewise

@@ -1,3 +1,4 @@
 pub mod Request
 pub mod Reading
 pub mod Example
+pub mod Writing

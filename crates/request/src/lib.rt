@@ -2,3 +2,4 @@
 mod given;
 pub mod laws;
 pub mod reading;
+pub mod writing;
