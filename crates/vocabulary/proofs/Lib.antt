@@ -3,6 +3,7 @@ pub mod Entering
 pub mod Filled
 pub mod Gridded
 pub mod Known
+pub mod Placing
 pub mod Progressing
 pub mod Pushed
 pub mod Spans

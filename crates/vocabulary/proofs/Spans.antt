@@ -51,11 +51,11 @@ abbrev pub from : ℕ → Option ℕ → Option ℕ
 from i None = None
 from i (Some j) = Some (i + j)
 
-from-later : (i : ℕ) (o : Option ℕ) → from i (later o) ≡ from (i + 1) o
+pub from-later : (i : ℕ) (o : Option ℕ) → from i (later o) ≡ from (i + 1) o
 from-later i None = refl
 from-later i (Some j) = let e : i + suc j ≡ i + 1 + j = omega arith in ap Some e
 
-from-start : (o : Option ℕ) → o ≡ from 0 o
+pub from-start : (o : Option ℕ) → o ≡ from 0 o
 from-start None = refl
 from-start (Some j) = let e : j ≡ 0 + j = omega arith in ap Some e
 

@@ -1,12 +1,14 @@
 -- Looking things up in a vocabulary.
-use mathlib.Core.List.{List, []}
+use mathlib.Core.Bool.{Bool, false, cond}
+use mathlib.Core.List.{List, [], _∷_}
 use Prim.Native.Nat.{ℕ}
-use lib.IntN.{ℤ, pos}
+use lib.Dec.{eqb}
+use lib.IntN.{ℤ, pos, negsuc}
 use lib.ListN.{getD}
 use Rattle.std.specs.declared.option.Option.{Option}
 use Rattle.std.specs.declared.option.Option.the-variants.{Some, None}
 use Rattle.vocabulary.specs.Cells.{cellOf}
-use Rattle.vocabulary.specs.Vocabulary.{Kind, valued, ranged, Attribute, named, place}
+use Rattle.vocabulary.specs.Vocabulary.{Kind, valued, ranged, Attribute, named, place, later}
 
 -- no attribute: it has no name and no values
 abbrev pub noAttribute : Attribute
@@ -25,6 +27,22 @@ valueCell (ranged zs) w = None
 abbrev pub numberCell : Kind → ℤ → Option ℕ
 numberCell (valued names) x = None
 numberCell (ranged zs) x = cellOf zs x
+
+abbrev pub sameNumber : ℤ → ℤ → Bool
+sameNumber (pos a) (pos b) = eqb a b
+sameNumber (pos a) (negsuc b) = false
+sameNumber (negsuc a) (pos b) = false
+sameNumber (negsuc a) (negsuc b) = eqb a b
+
+-- which cut a number is
+abbrev pub cutPlace : ℤ → List ℤ → Option ℕ
+cutPlace x [] = None
+cutPlace x (z ∷ zs) = cond (sameNumber x z) (Some 0) (later (cutPlace x zs))
+
+-- which of an attribute's cuts a number is
+abbrev pub cutOf : Kind → ℤ → Option ℕ
+cutOf (valued names) x = None
+cutOf (ranged zs) x = cutPlace x zs
 
 -- what names cell c in a request: a value's name, or the cut at which the cell begins
 pub data Label : Type 0 where

@@ -7,7 +7,7 @@ ghost use lib.ListN.{length, getD};
 ghost use Rattle.std.specs.Options.{Cases};
 ghost use Rattle.vocabulary.specs.Cells.{cellOf};
 ghost use Rattle.vocabulary.specs.Vocabulary.{place, namesOf};
-ghost use Rattle.vocabulary.specs.Lookup.{noAttribute, attributeAt, valueCell, numberCell, labelOf};
+ghost use Rattle.vocabulary.specs.Lookup.{noAttribute, attributeAt, valueCell, numberCell, cutPlace, cutOf, labelOf};
 ghost use Rattle.vocabulary.specs.Parts.{namesIn, cutsIn, attributeIn, attributesIn};
 ghost use Rattle.vocabulary.specs.Record.{attributesOf, labelShown};
 use crate::attributes::Attributes;
@@ -26,6 +26,18 @@ fn cell(cuts: &[i32], x: i32) -> Option<usize>
     for (i, cut) in cuts.iter().enumerate() {
         if x < *cut {
             return if i == 0 { None } else { Some(i - 1) };
+        }
+    }
+    None
+}
+
+/// Which of the cuts `x` is.
+fn cut_place(cuts: &[i32], x: i32) -> Option<usize>
+    ensures { λ r. ⌜ r ≡ cutPlace x (now (cuts .entry)) ⌝ }
+{
+    for (i, cut) in cuts.iter().enumerate() {
+        if *cut == x {
+            return Some(i);
         }
     }
     None
@@ -106,6 +118,20 @@ impl<'a> Vocabulary<'a> {
             Kind::Ranged(cuts) => {
                 let cell = cell(&cuts.numbers[0..cuts.len], number)?;
                 Some(cell as u8)
+            }
+        }
+    }
+
+    /// Which of the cuts of attribute `i` a number is.
+    pub fn cut(&self, i: usize, number: i32) -> Option<u8>
+        ensures { λ r. ⌜ r ≡ cutOf (attributeAt (attributesOf (now (self .entry))) i .kind) number ⌝ }
+    {
+        let attribute = self.attributes.get(i)?;
+        match attribute.kind {
+            Kind::Valued(_names) => None,
+            Kind::Ranged(cuts) => {
+                let place = cut_place(&cuts.numbers[0..cuts.len], number)?;
+                Some(place as u8)
             }
         }
     }
