@@ -1,0 +1,4 @@
+//! Policies that come from outside.
+pub mod counting;
+pub mod grid;
+pub mod source;
