@@ -1,8 +1,7 @@
-use mathlib.Core.Path.{_≡_, sym, ap, subst, _∙_}
-use mathlib.Core.List.{List}
-use Prim.Native.Nat.{_+_, _≤_}
+use mathlib.Core.Path.{sym, ap, subst, _∙_}
+use Prim.Native.Nat.{_+_}
 use native.Mathlib.Omega.{arith}
-use lib.ListN.{length, getD, set, length-set}
+use lib.ListN.{length, getD, length-set}
 use Rattle.policy.proofs.Counted.{Counted, at-most-all, counted-more, counted-same}
 use Rattle.policy.proofs.counting.count_decisions.Needs as need
 use Rattle.policy.proofs.counting.count_decisions.Needs.{then-code-lt16, else-code-lt16}
