@@ -1,0 +1,4 @@
+pub mod Codes
+pub mod Combined
+pub mod Counted
+pub mod Matched

@@ -1,0 +1,5 @@
+//! Policies that come from outside.
+pub mod counting;
+pub mod grid;
+pub mod laws;
+pub mod source;
