@@ -1,8 +1,10 @@
 pub mod Combining
 pub mod Counts
+pub mod Example
 pub mod Grids
 pub mod Lists
 pub mod Matching
 pub mod Meaning
 pub mod Rules
 pub mod Sheets
+pub mod Walking

@@ -1,8 +1,9 @@
 -- What a policy sheet says, read with a vocabulary and an algebra.
+use mathlib.Core.Path.{_≡_}
 use mathlib.Core.Bool.{Bool, true, false, cond, _&&_, _||_}
 use mathlib.Core.List.{List, [], _∷_, _++_}
-use Prim.Native.Nat.{ℕ, zero, suc, _-_}
-use lib.IntN.{ℤ, pos, negsuc}
+use Prim.Native.Nat.{ℕ, zero, suc, _+_, _-_}
+use lib.IntN.{ℤ}
 use lib.Dec.{eqb, leb, ltb}
 use lib.ListN.{length, getD, set, replicate}
 use Rattle.std.specs.declared.option.Option.{Option}
@@ -12,23 +13,12 @@ use Rattle.refusal.specs.Answers.{Answer, refuse, andThen, given}
 use Rattle.fields.specs.Fields.{Framed, reading, limited, when, Said, attribute, value, cuts, way, rule, choice, range, measure, saidBy}
 use Rattle.algebra.specs.Tables.{Tables}
 use Rattle.vocabulary.specs.Grid.{grid, cellsAt}
-use Rattle.vocabulary.specs.Vocabulary.{Kind, valued, ranged, Attribute, shapeOf, namesOf, place, later}
-use Rattle.vocabulary.specs.Lookup.{attributeAt, valueCell}
+use Rattle.vocabulary.specs.Vocabulary.{Kind, Attribute, shapeOf, namesOf, place}
+use Rattle.vocabulary.specs.Lookup.{attributeAt, valueCell, cutOf}
 use Rattle.policy.specs.Meaning.{Meaning}
 use Rattle.policy.specs.Rules.{Rule, decides}
 
 -- ---- conditions
-abbrev pub sameNumber : ℤ → ℤ → Bool
-sameNumber (pos a) (pos b) = eqb a b
-sameNumber (pos a) (negsuc b) = false
-sameNumber (negsuc a) (pos b) = false
-sameNumber (negsuc a) (negsuc b) = eqb a b
-
--- which cut a number is
-abbrev pub cutPlace : ℤ → List ℤ → Option ℕ
-cutPlace x [] = None
-cutPlace x (z ∷ zs) = cond (sameNumber x z) (Some 0) (later (cutPlace x zs))
-
 -- c, c + 1 and so on, n of them
 abbrev pub cellsFrom : ℕ → ℕ → List ℕ
 cellsFrom c zero = []
@@ -41,8 +31,7 @@ between (Some i) (Some j) = when (ltb i j) (cellsFrom i (j - i))
 
 -- the cells from one cut up to, not including, another
 abbrev pub rangeCells : Kind → ℤ → ℤ → Option (List ℕ)
-rangeCells (valued names) x y = None
-rangeCells (ranged zs) x y = between (cutPlace x zs) (cutPlace y zs)
+rangeCells k x y = between (cutOf k x) (cutOf k y)
 
 -- the cell of a value
 abbrev pub choiceCells : Kind → List ℕ → Option (List ℕ)
@@ -113,6 +102,12 @@ finish at (ruled w rules r) = Ok (w, rules ++ r ∷ [])
 -- the way and the rules of a policy sheet
 abbrev pub policyOf : List Attribute → ℕ → List ℕ → Answer (ℕ × List Rule)
 policyOf v k bs = limited bs (andThen (reading (step v k) 0 start 0 bs) (finish (length bs)))
+
+-- reading s and then t is reading t from the progress after s
+abbrev pub ReadingGoesOn : Type 0
+ReadingGoesOn =
+    (v : List Attribute) (k : ℕ) (s t : List ℕ) (at : ℕ) (p q : Progress) → reading (step v k) at p 0 s ≡ Ok q
+    → reading (step v k) at p 0 (s ++ t) ≡ reading (step v k) (at + length s) q 0 t
 
 -- ---- meaning
 -- what the rules of a sheet decide at cells; nothing where it is refused

@@ -2,4 +2,5 @@
 pub mod counting;
 pub mod grid;
 pub mod laws;
+pub mod sheets;
 pub mod source;
