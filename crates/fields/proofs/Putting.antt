@@ -13,17 +13,17 @@ use Rattle.fields.specs.Fields.{framed, fieldBytes}
 use Rattle.fields.specs.Written.{written}
 
 module _ (out : List ℕ) (at : ℕ) where
-  -- a part of the memory that holds the bytes now
+  -- a part of memory that holds the bytes now is the bytes written there
   pub part-written : (part bytes : List ℕ) → part ≡ bytes → putMid at (at + length bytes - at) out part ≡ written out at bytes
   part-written part bytes e =
       let n : length bytes ≡ at + length bytes - at = omega arith in
       putMid-paste at (at + length bytes - at) out part bytes (length bytes) e n refl ∙ paste-all out at bytes (length bytes) refl
 
-  -- nothing written leaves memory as it was
+  -- nothing written leaves memory as it was, for what stands before and after is all
   pub written-none : written out at [] ≡ out
   written-none = ap (λ n. take at out ++ drop n out) (omega arith) ∙ take-append-drop at out
 
-  -- what is written right after a run makes the run longer
+  -- what is written right after a run makes the run longer, for the second writing leaves the first
   pub written-on : (s t : List ℕ) → at ≤ length out → written (written out at s) (at + length s) t ≡ written out at (s ++ t)
   written-on s t h =
       ap (λ o. written o (at + length s) t) (sym (paste-all out at s (length s) refl))
@@ -36,7 +36,7 @@ module _ (out : List ℕ) (at : ℕ) where
   pub then-written : (o p s t : List ℕ) (n : ℕ) → at ≤ length out → o ≡ written out at s → n ≡ at + length s → p ≡ written o n t → p ≡ written out at (s ++ t)
   then-written o p s t n h e l d = d ∙ ap₂ (λ q m. written q m t) e l ∙ written-on s t h
 
--- tag and length, name, sign and what is given make up the field
+-- tag and length, name, sign and what is given make up the field, for the length is that of the content
 pub field-whole : (tag n : ℕ) (name given : List ℕ) → n ≡ length name + 1 + length given
     → (((tag ∷ (n / 256) ∷ (n % 256) ∷ []) ++ name) ++ 0x3D ∷ []) ++ given ≡ fieldBytes (framed tag (name ++ 0x3D ∷ given))
 field-whole tag n name given e =

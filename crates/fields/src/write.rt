@@ -14,15 +14,22 @@ fn head(tag: u8, size: usize) -> [u8; 3]
     [tag, (size / 256) as u8, (size % 256) as u8]
 }
 
+/// Writes bytes at a place.
+fn overwrite(out: &mut [u8], at: usize, bytes: &[u8])
+    requires { ⌜ at + length (now bytes) ≤ length (now out) ⌝ }
+    ensures { λ _. ⌜ now (out .exit) ≡ written (now (out .entry)) at (now (bytes .entry)) ⌝ }
+{
+    out[at..at + bytes.len()].copy_from_slice(bytes);
+}
+
 /// Writes bytes at a place, and answers the place after them.
 pub fn put(out: &mut [u8], at: usize, bytes: &[u8]) -> usize
     requires { ⌜ at + length (now bytes) ≤ length (now out) ⌝ }
     ensures answers_the_place_after { λ r. ⌜ r ≡ at + length (now (bytes .entry)) ⌝ }
     ensures bytes_are_written { λ _. ⌜ now (out .exit) ≡ written (now (out .entry)) at (now (bytes .entry)) ⌝ }
 {
-    let next = at + bytes.len();
-    out[at..next].copy_from_slice(bytes);
-    next
+    overwrite(out, at, bytes);
+    at + bytes.len()
 }
 
 /// Writes a field at a place, and answers the place after it. Its content is a name, `=` and what the name is given.

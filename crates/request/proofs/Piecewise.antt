@@ -8,10 +8,11 @@ use lib.Dec.{leb}
 use lib.ListN.{length, take, drop, getD, length-append, length-map}
 use Rattle.std.specs.declared.result.Result.the-variants.{Ok}
 use Rattle.std.proofs.shelf.Lists.{drop-more, drop-all, take-at, getD-map}
-use Rattle.std.proofs.shelf.Tests.{le-leb, cond-true}
+use Rattle.std.proofs.shelf.Tests.{leb-true}
 use Rattle.refusal.specs.Answers.{Answer, refuse}
 use Rattle.fields.specs.Fields.{fieldBytes}
 use Rattle.fields.specs.Written.{written}
+use Rattle.fields.proofs.Answering.{either-way, same-value, not-both}
 use Rattle.fields.proofs.Putting.{written-on}
 use Rattle.std.specs.Options.{isSome}
 use Rattle.fields.specs.Fields.{when}
@@ -55,9 +56,11 @@ field-size n (by-number z) = simp length-append (omega arith)
 
 -- a name and a label that are those of attribute i make up the field that gives it its cell
 module _ (v : List Attribute) (i c : ℕ) (name : List ℕ) (l : Label) (n : name ≡ attributeAt v i .name) (e : l ≡ labelOf (attributeAt v i .kind) c) where
+  -- equal parts make equal fields
   pub field-is : fieldBytes (fieldBy name l) ≡ fieldBytesAt v i c
   field-is = ap₂ (λ m k. fieldBytes (fieldBy m k)) n e
 
+  -- so the field has the size of its parts
   pub size-is : 4 + length name + length (givenBytes l) ≡ length (fieldBytesAt v i c)
   size-is = sym (field-size name l) ∙ ap length field-is
 
@@ -66,11 +69,11 @@ abbrev pub rest : List Attribute → List ℕ → ℕ → List ℕ
 rest v cells i = requestFor (drop i v) (drop i cells)
 
 module _ (v : List Attribute) (cells : List ℕ) where
-  -- the next field stands before the others
+  -- the next field stands before the others, for both lists have a next element
   pub rest-more : (i : ℕ) → i < length v → i < length cells → rest v cells i ≡ fieldBytesAt v i (getD cells i 0) ++ rest v cells (i + 1)
   rest-more i h l = ap₂ requestFor (drop-more v i noAttribute h) (drop-more cells i 0 l)
 
-  -- nothing is left after the last cell
+  -- nothing is left after the last cell, whatever attributes are
   pub rest-none : (i : ℕ) → length cells ≤ i → rest v cells i ≡ []
   rest-none i l = ap (requestFor (drop i v)) (drop-all i cells l) ∙ no-cells (drop i v)
     where
@@ -80,12 +83,15 @@ module _ (v : List Attribute) (cells : List ℕ) where
 
 -- ---- the request for cells of a proper vocabulary's shape
 module _ (v : List Attribute) (cells : List ℕ) (proper : Proper v) (t : areCells (shapeOf v) cells ≡ true) where
+  -- there is a cell for each attribute, for the shape has a count for each
   pub as-many : length cells ≡ length v
   as-many = cells-many (shapeOf v) cells (are-cells (shapeOf v) cells t) ∙ shape-many v
 
+  -- the request is short, as any that reads back
   pub request-short : length (requestFor v cells) ≤ 288
   request-short = requests-read-back v cells proper (are-cells (shapeOf v) cells t) .fits-in-288-bytes
 
+  -- so each cell has its field
   pub next-field : (i : ℕ) → i < length cells → rest v cells i ≡ fieldBytesAt v i (getD cells i 0) ++ rest v cells (i + 1)
   next-field i l = let m = as-many in rest-more v cells i (omega arith) l
 
@@ -98,18 +104,21 @@ module _ (v : List Attribute) (cells : List ℕ) (proper : Proper v) (t : areCel
       → written out at (rest v cells i) ≡ written (written out at (fieldBytesAt v i (getD cells i 0))) (at + length (fieldBytesAt v i (getD cells i 0))) (rest v cells (i + 1))
   next-written out at i l h = ap (written out at) (next-field i l) ∙ sym (written-on out at (fieldBytesAt v i (getD cells i 0)) (rest v cells (i + 1)) h)
 
-  -- the length is the one laid down, for both tests pass
-  pub length-laid-down : (n room : ℕ) → n ≡ length (requestFor v cells) → n ≤ room → Ok n ≡ writtenLength v cells room
-  length-laid-down n room e h =
-      let len : ℕ = length (requestFor v cells) in
-      let inner : Answer ℕ = cond (leb len room) (Ok len) (refuse 45 0) in
-      let l : len ≤ room = omega arith in
-      ap Ok e ∙ sym (cond-true (areCells (shapeOf v) cells) inner (refuse 47 0) t ∙ cond-true (leb len room) (Ok len) (refuse 45 0) (le-leb len room l))
-
-  -- memory that begins with the request is read as the cells
+  -- memory that begins with the request is read as the cells, for its first bytes are the request
   pub reads-as : (n : ℕ) (tail memory : List ℕ) → n ≡ length (requestFor v cells) → memory ≡ requestFor v cells ++ tail → ReadsAs v cells memory n
   reads-as n tail memory e m =
       let back = requests-read-back v cells proper (are-cells (shapeOf v) cells t) in
       let first : take n memory ≡ requestFor v cells = ap (take n) m ∙ take-at (requestFor v cells) tail n (sym e) in
       let short = back .fits-in-288-bytes in
       record { reads-as-the-cells = ap (requestOf v) first ∙ back .reads-as-its-cells; fits-in-288-bytes = omega arith }
+
+-- where a length is laid down, the cells are of the shape and there is room, for else it is refused
+pub has-room : (v : List Attribute) (cells : List ℕ) (room n : ℕ) → Ok n ≡ writtenLength v cells room
+    → (areCells (shapeOf v) cells ≡ true) × (n ≡ length (requestFor v cells)) × (length (requestFor v cells) ≤ room)
+has-room v cells room n e =
+    let len : ℕ = length (requestFor v cells) in
+    let inner : Answer ℕ = cond (leb len room) (Ok len) (refuse 45 0) in
+    let Goal : Type 0 = (areCells (shapeOf v) cells ≡ true) × (n ≡ len) × (len ≤ room) in
+    either-way (areCells (shapeOf v) cells) inner (refuse 47 0) (Ok n) Goal (sym e)
+    (λ t d. either-way (leb len room) (Ok len) (refuse 45 0) (Ok n) Goal d (λ l f. (t, sym (same-value len n f), leb-true len room l)) (λ l f. absurd (not-both _ n f)))
+    (λ t d. absurd (not-both _ n d))

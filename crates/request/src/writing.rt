@@ -57,6 +57,26 @@ fn request_len(vocabulary: &Vocabulary, cells: &[u8]) -> usize
     len
 }
 
+/// How many bytes the request for these cells has, if they are cells of the vocabulary's shape and it fits the room.
+fn checked_len(vocabulary: &Vocabulary, cells: &[u8], room: usize) -> Result<usize, Refusal>
+    ensures { λ r. ⌜ answerBy itself r ≡ writtenLength (attributesOf (now (vocabulary .entry))) (now (cells .entry)) room ⌝ }
+{
+    if !are_cells(vocabulary, cells) {
+        return Err(Refusal {
+            cause: Cause::Mismatch,
+            place: 0,
+        });
+    }
+    let len = request_len(vocabulary, cells);
+    if room < len {
+        return Err(Refusal {
+            cause: Cause::MemoryTooShort,
+            place: 0,
+        });
+    }
+    Ok(len)
+}
+
 /// Writes the field that gives attribute `i` its cell, and answers the place after it.
 fn write_cell(vocabulary: &Vocabulary, i: usize, cell: u8, out: &mut [u8], at: usize) -> usize
     requires field_is_short { ⌜ length (fieldBytesAt (attributesOf (now vocabulary)) i cell) ≤ 288 ⌝ }
@@ -95,19 +115,7 @@ pub fn write_request(
     ensures memory_holds_the_request { λ r. ⌜ now (out .exit) ≡ memoryAfter (requestFor (attributesOf (now (vocabulary .entry))) (now (cells .entry))) (now (out .entry)) r ⌝ }
     ensures request_is_read_back { λ r. ⌜ made r (ReadsAs (attributesOf (now (vocabulary .entry))) (now (cells .entry)) (now (out .exit))) ⌝ }
 {
-    if !are_cells(vocabulary, cells) {
-        return Err(Refusal {
-            cause: Cause::Mismatch,
-            place: 0,
-        });
-    }
-    let len = request_len(vocabulary, cells);
-    if out.len() < len {
-        return Err(Refusal {
-            cause: Cause::MemoryTooShort,
-            place: 0,
-        });
-    }
+    let len = checked_len(vocabulary, cells, out.len())?;
     write_cells(vocabulary, cells, out);
     Ok(len)
 }
