@@ -6,6 +6,8 @@ mod bytes;
 #[cfg(test)]
 mod grids;
 #[cfg(test)]
+mod located;
+#[cfg(test)]
 mod refusals;
 #[cfg(test)]
 mod rows;
@@ -13,3 +15,5 @@ mod rows;
 mod sheets;
 #[cfg(test)]
 mod stacks;
+#[cfg(test)]
+mod written;
