@@ -84,15 +84,13 @@ fn tables() -> Result<(), Fail> {
 /// Permit and deny agree on nothing and together permit; programs print decisions by their words.
 #[test]
 fn decisions(rt: LibcRuntime) -> Result<(), Fail> {
-    let permit = Decision::Permit.code();
-    let deny = Decision::Deny.code();
-    for (code, word) in [
-        (PermitDeny.meet(permit, deny), "silence"),
-        (PermitDeny.sum(deny, permit), "permit"),
-        (deny, "deny"),
-    ] {
-        let decision = Decision::of_code(code).ok_or("no decision")?;
-        check_eq(format!(rt.alloc(), "{decision}")?.as_str(), word)?;
-    }
-    check(Decision::of_code(3).is_none() && Decision::of_code(255).is_none())
+    let (permit, deny) = (Decision::Permit.code(), Decision::Deny.code());
+    let meet = Decision::of_code(PermitDeny.meet(permit, deny)).ok_or("no decision")?;
+    let sum = Decision::of_code(PermitDeny.sum(deny, permit)).ok_or("no decision")?;
+    let first = Decision::of_code(PermitDeny.precedence(deny, permit)).ok_or("no decision")?;
+    check_eq(
+        format!(rt.alloc(), "{meet} {sum} {first}")?.as_str(),
+        "silence permit deny",
+    )?;
+    check(Decision::of_code(3).is_none() & Decision::of_code(255).is_none())
 }

@@ -41,45 +41,35 @@ fn shape_of(heap: Global, words: &str) -> Result<Shape, Fail> {
     Ok(vocabulary.shape())
 }
 
+/// Shapes with their sizes, and whether they are the example's.
 #[test]
 fn numbers(rt: LibcRuntime) -> Result<(), Fail> {
-    for (words, size) in [
-        (EXAMPLE, 8usize),
-        ("1", 1),
-        ("16 16 16", 4096),
-        ("5 7 13 9", 4095),
-        ("2 3 1 2 2 4 5 2", 960),
+    let example = shape_of(rt.alloc(), EXAMPLE)?;
+    for (words, size, same) in [
+        ("2 2 2", 8usize, true),
+        ("2 2", 4, false),
+        ("2 2 2 1", 8, false),
+        ("2 4 1", 8, false),
+        ("16 16 16", 4096, false),
+        ("5 7 13 9", 4095, false),
+        ("2 3 1 2 2 4 5 2", 960, false),
     ] {
         let shape = shape_of(rt.alloc(), words)?;
-        check_eq(shape.size(), size)?;
+        check(shape.size() == size && shape.same(&example) == same)?;
         check_numbers(rt.alloc(), &shape)?;
     }
     Ok(())
 }
 
+/// Each cell has to be below its count, and there has to be one for each attribute.
 #[test]
 fn wrong_cells(rt: LibcRuntime) -> Result<(), Fail> {
     let shape = shape_of(rt.alloc(), "2 3 4")?;
     for cells in [[2, 0, 0], [0, 3, 0], [0, 0, 4], [255, 255, 255]] {
-        check_eq(shape.number(&cells), None)?;
+        check(shape.number(&cells).is_none())?;
     }
     check(shape.number(&[0, 0]).is_none() && shape.number(&[0, 0, 0, 0]).is_none())?;
     check(
         shape.count(2) == Some(4) && shape.count(3).is_none() && shape.cells(usize::MAX).is_none(),
     )
-}
-
-#[test]
-fn shapes(rt: LibcRuntime) -> Result<(), Fail> {
-    let example = shape_of(rt.alloc(), EXAMPLE)?;
-    for (words, same) in [
-        ("2 2 2", true),
-        ("2 2", false),
-        ("2 2 2 1", false),
-        ("2 4 1", false),
-        ("2 2 3", false),
-    ] {
-        check(example.same(&shape_of(rt.alloc(), words)?) == same)?;
-    }
-    Ok(())
 }

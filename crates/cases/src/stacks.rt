@@ -9,15 +9,15 @@ use std::test::*;
 /// Entries go in until each slot holds one, and come off in the opposite order until there is none.
 fn check_stack(slots: &mut [usize], size: usize) -> Result<(), Fail> {
     let mut stack = Stack::new(slots);
+    let mut good = stack.is_empty();
     for n in 0..size {
-        stack.push(n)?;
-        check(stack.top() == Some(n))?;
+        good &= (stack.len() == n) & stack.push(n).is_ok() & (stack.top() == Some(n));
     }
-    check(stack.is_full() && stack.push(size).is_err())?;
+    good &= stack.is_full() & stack.push(size).is_err();
     for n in (0..size).rev() {
-        check(stack.pop() == Some(n) && stack.len() == n)?;
+        good &= (stack.pop() == Some(n)) & (stack.len() == n);
     }
-    check(stack.is_empty() && stack.pop().is_none())
+    check(good & stack.is_empty() & stack.pop().is_none())
 }
 
 #[test]
