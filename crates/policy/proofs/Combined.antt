@@ -106,6 +106,7 @@ sum-from-below : (t : Tables) → ShortCutLaws t → (a : ℕ) (ds : List ℕ) �
 sum-from-below t laws a [] h codes = h
 sum-from-below t laws a (d ∷ ds) h codes = sum-from-below t laws (t .sum a d) ds (laws .sum-below-size a d h (codes .0)) (codes .1)
 
+-- a sum of codes is a code, and of none 0
 pub sum-below : (t : Tables) → ShortCutLaws t → (ds : List ℕ) → Codes (t .size) ds → sumOf (t .sum) ds < t .size
 sum-below t laws [] codes = let least = laws .size-at-least-2 in omega arith
 sum-below t laws (d ∷ ds) codes = sum-from-below t laws d ds (codes .0) (codes .1)

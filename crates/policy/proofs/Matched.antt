@@ -50,6 +50,7 @@ allowed-is-matching (ds ∷ named) (c ∷ cells) each =
     and-from (allows ds c) (matches named cells) (allowed-passes ds c (each 0 (omega arith) (omega arith)))
     (allowed-is-matching named cells (λ i h k. each (suc i) (omega arith) (omega arith)))
 
+-- both ways, attribute by attribute
 pub matches-where-allowed : RuleMatchesWhereEachCellIsAllowed
 matches-where-allowed named cells = record {
   what-matches-is-allowed = matching-is-allowed named cells;

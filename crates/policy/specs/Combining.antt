@@ -32,6 +32,7 @@ pub record OnlyAlone (t : Tables) : Type 0 where
   pub two-or-more-give-zero : (ds : List ℕ) → 2 ≤ length ds → combine t 3 ds ≡ 0
   pub what-is-given-stood-alone : (d : ℕ) (ds : List ℕ) → 1 ≤ d → combine t 3 ds ≡ d → ds ≡ d ∷ []
 
+-- in every algebra
 abbrev pub ThirdWayGivesWhatStandsAlone : Type 0
 ThirdWayGivesWhatStandsAlone = (t : Tables) → OnlyAlone t
 
@@ -45,6 +46,7 @@ pub record OneMore (sum : ℕ → ℕ → ℕ) (ds : List ℕ) (d : ℕ) : Type 
   pub sum-of-more : sumOf sum (ds ++ d ∷ []) ≡ cond (eqb (length ds) 0) d (sum (sumOf sum ds) d)
   pub only-of-more : onlyOf (ds ++ d ∷ []) ≡ cond (eqb (length ds) 0) d 0
 
+-- after any decisions
 abbrev pub OneDecisionMore : Type 0
 OneDecisionMore = (sum : ℕ → ℕ → ℕ) (ds : List ℕ) (d : ℕ) → OneMore sum ds d
 
@@ -54,6 +56,7 @@ pub record CombinesCodes (t : Tables) : Type 0 where
   pub none-gives-zero : (way : ℕ) → combine t way [] ≡ 0
   pub one-gives-itself : (way d : ℕ) → d < t .size → combine t way (d ∷ []) ≡ d
 
+-- in every algebra that keeps the laws
 abbrev pub EveryWayCombinesCodes : Type 0
 EveryWayCombinesCodes = (t : Tables) → ShortCutLaws t → RegroupingLaws t → CombinesCodes t
 

@@ -20,5 +20,6 @@ pub record MatchesAllowed (named : List (List ℕ)) (cells : List ℕ) : Type 0 
   pub what-matches-is-allowed : matches named cells ≡ true → EachAllowed named cells
   pub what-is-allowed-matches : EachAllowed named cells → matches named cells ≡ true
 
+-- whatever a rule names, and at any cells
 abbrev pub RuleMatchesWhereEachCellIsAllowed : Type 0
 RuleMatchesWhereEachCellIsAllowed = (named : List (List ℕ)) (cells : List ℕ) → MatchesAllowed named cells
