@@ -1,6 +1,7 @@
 //! Laws of policy sheets, each the contract of a function that does nothing.
 ghost use Rattle.policy.specs.Sheets.{ReadingGoesOn};
 ghost use Rattle.policy.specs.Example.{WorkedSheets};
+ghost use Rattle.policy.specs.Walking.{WalkDecides};
 
 /// Reading one run of bytes and then another is reading the second from the progress after the first.
 pub fn reading_goes_on()
@@ -10,4 +11,9 @@ pub fn reading_goes_on()
 /// Two worked sheets, the pages that they mean, and sheets that are refused.
 pub fn worked_sheets()
     ensures { λ _. ⌜ WorkedSheets ⌝ }
+{}
+
+/// A walk through a sheet answers what its rules decide, and refuses what the reader refuses.
+pub fn walk_decides()
+    ensures { λ _. ⌜ WalkDecides ⌝ }
 {}
