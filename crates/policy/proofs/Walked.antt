@@ -317,4 +317,4 @@ module _ (t : Tables) (v : List Attribute) (cells : List ℕ) (fits : length cel
 
 -- none of the ways needs that 0 negated is 0: without a decision both sides negate 0 in the fourth
 pub walk-decides : WalkDecides
-walk-decides t v cells bs fits zero-stays = walk-answers t v cells fits bs
+walk-decides t v cells bs fits = walk-answers t v cells fits bs

@@ -22,5 +22,6 @@ codesOf shape k list = cond (eqb (length list) (grid shape)) (checkedFrom k 0 li
 abbrev pub codesMeaning : List ℕ → ℕ → List ℕ → Meaning
 codesMeaning shape k codes = record { shape = shape; size = k; decision = λ g. cond (ltb g (grid shape)) (getD codes g 0) 0 }
 
+-- every code is below k
 abbrev pub AllBelow : ℕ → List ℕ → Type 0
 AllBelow k codes = (i : ℕ) → getD codes i 0 < k

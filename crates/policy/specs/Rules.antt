@@ -11,6 +11,7 @@ pub record Rule : Type 0 where
   pub decision : ℕ
   pub named : List (List ℕ)
 
+-- a cell is one of these
 abbrev pub isAmong : ℕ → List ℕ → Bool
 isAmong c [] = false
 isAmong c (d ∷ ds) = eqb c d || isAmong c ds
@@ -31,10 +32,12 @@ abbrev pub deciding : List Rule → List ℕ → List ℕ
 deciding rules cells = map (λ r. r .decision) (kept-by (λ r. matches (r .named) cells) rules)
 
 -- ---- the four ways to combine decisions
+-- the first of the decisions
 abbrev pub firstOf : List ℕ → ℕ
 firstOf [] = 0
 firstOf (d ∷ ds) = d
 
+-- a start, and the decisions added to it one by one
 abbrev pub sumFrom : (ℕ → ℕ → ℕ) → ℕ → List ℕ → ℕ
 sumFrom sum a [] = a
 sumFrom sum a (d ∷ ds) = sumFrom sum (sum a d) ds
@@ -44,6 +47,7 @@ abbrev pub sumOf : (ℕ → ℕ → ℕ) → List ℕ → ℕ
 sumOf sum [] = 0
 sumOf sum (d ∷ ds) = sumFrom sum d ds
 
+-- the decision that stands alone
 abbrev pub onlyOf : List ℕ → ℕ
 onlyOf [] = 0
 onlyOf (d ∷ []) = d

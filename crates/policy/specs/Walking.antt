@@ -118,4 +118,4 @@ walkOf t v cells bs = limited bs (andThen (reading (step t v cells) 0 begun 0 bs
 abbrev pub WalkDecides : Type 0
 WalkDecides =
     (t : Tables) (v : List Attribute) (cells bs : List ℕ) → length cells ≡ length v
-    → t .negation 0 ≡ 0 → walkOf t v cells bs ≡ andThen (policyOf v (t .size) bs) (λ x. Ok (decides t (x .0) (x .1) cells))
+    → walkOf t v cells bs ≡ andThen (policyOf v (t .size) bs) (λ x. Ok (decides t (x .0) (x .1) cells))
