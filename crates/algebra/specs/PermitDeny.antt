@@ -30,5 +30,6 @@ meetRows = (0 ∷ 0 ∷ 0 ∷ []) ∷ (0 ∷ 1 ∷ 0 ∷ []) ∷ (0 ∷ 0 ∷ 2 
 abbrev pub exchanged : ℕ → ℕ
 exchanged a = cond (eqb a 1) 2 (cond (eqb a 2) 1 0)
 
+-- the algebra of permit and deny, of size 3
 abbrev pub permitDeny : Tables
 permitDeny = bounded 3 (at sumRows) (at meetRows) exchanged

@@ -16,5 +16,6 @@ common a b = cond (eqb a b) a 0
 abbrev pub opposite : ℕ → ℕ
 opposite a = cond (eqb a 0) 0 (7 - a)
 
+-- the algebra of compressor stages, of size 7
 abbrev pub stages : Tables
 stages = bounded 7 lower common opposite

@@ -16,6 +16,7 @@ pub record Framed : Type 0 where
   pub tag : ℕ
   pub content : List ℕ
 
+-- the field of a tag and a content
 abbrev pub framed : ℕ → List ℕ → Framed
 framed t c = record { tag = t; content = c }
 
@@ -72,9 +73,11 @@ pub data Said : Type 0 where
 abbrev pub formed : {X : Type 0} → ℕ → Bool → Option X → Answer X
 formed at allowed x = cond allowed (given x 13 at Ok) (refuse 12 at)
 
+-- a content has at least low and at most high bytes
 abbrev pub between : ℕ → ℕ → List ℕ → Bool
 between low high c = leb low (length c) && leb (length c) high
 
+-- a value where the test holds, and none elsewhere
 abbrev pub when : {X : Type 0} → Bool → X → Option X
 when b x = cond b (Some x) None
 

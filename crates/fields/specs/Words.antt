@@ -15,6 +15,7 @@ use Rattle.std.specs.declared.option.Option.the-variants.{Some, None}
 abbrev pub nameByte : ℕ → Bool
 nameByte b = (leb 97 b && leb b 122) || ((leb 48 b && leb b 57) || eqb b 45)
 
+-- every byte may stand in a name
 abbrev pub nameBytes : List ℕ → Bool
 nameBytes [] = true
 nameBytes (b ∷ bs) = nameByte b && nameBytes bs

@@ -12,6 +12,7 @@ use Rattle.location.specs.declared.Failure.{Failure}
 use Rattle.location.specs.declared.Failure.the-variants.{Refused, OutOfMemory}
 use Rattle.location.specs.Located.{Place}
 
+-- a location of the code as a place: its grid number and its cells
 abbrev pub placeShown : Location → Place
 placeShown l = record { grid-number = l .number; cells = cellsOf (l .cells) }
 

@@ -38,6 +38,7 @@ emptyRange = sheetBytes (framed 0x1F (1 ∷ []) ∷ framed 0x20 (1 ∷ []) ∷ f
 abbrev pub pageOf : List ℕ → List ℕ
 pageOf bs = map (sheetMeaning permitDeny exampleVocabulary bs .decision) (0 ∷ 1 ∷ 2 ∷ 3 ∷ 4 ∷ 5 ∷ 6 ∷ 7 ∷ [])
 
+-- two sheets over the example vocabulary, what they are read as and what they mean
 pub record WorkedSheets : Type 0 where
   pub first-sheet-has-two-rules :
       policyOf exampleVocabulary 3 firstSheet

@@ -24,6 +24,7 @@ abbrev pub cellsFrom : ℕ → ℕ → List ℕ
 cellsFrom c zero = []
 cellsFrom c (suc n) = c ∷ cellsFrom (suc c) n
 
+-- the cells from one cut up to another, where the first is the lower
 abbrev pub between : Option ℕ → Option ℕ → Option (List ℕ)
 between None o = None
 between (Some i) None = None
@@ -54,6 +55,7 @@ mayFollow start tag = eqb tag 0x1F
 mayFollow (headed w) tag = eqb tag 0x20
 mayFollow (ruled w rules r) tag = eqb tag 0x20 || (eqb tag 0x21 || eqb tag 0x22)
 
+-- the way stands first, and only there
 abbrev pub enterWay : ℕ → Progress → ℕ → Answer Progress
 enterWay at start w = Ok (headed w)
 enterWay at (headed v) w = refuse 11 at
@@ -64,6 +66,7 @@ abbrev pub openRule : List Attribute → ℕ → ℕ → ℕ → List Rule → �
 openRule v k at w rules d =
     cond (leb 1 d && ltb d k) (Ok (ruled w rules (record { decision = d; named = replicate (length v) [] }))) (refuse 13 at)
 
+-- a rule follows the way or another rule
 abbrev pub enterRule : List Attribute → ℕ → ℕ → Progress → ℕ → Answer Progress
 enterRule v k at start d = refuse 11 at
 enterRule v k at (headed w) d = openRule v k at w [] d
@@ -74,11 +77,13 @@ abbrev pub addCondition : List Attribute → ℕ → ℕ → List Rule → Rule 
 addCondition v at w rules r a cells =
     given (place a (namesOf v)) 23 at (λ i. given (cells (attributeAt v i .kind)) 24 at (λ cs. Ok (ruled w rules (adding r i cs))))
 
+-- a condition follows the rule that it belongs to
 abbrev pub enterCondition : List Attribute → ℕ → Progress → List ℕ → (Kind → Option (List ℕ)) → Answer Progress
 enterCondition v at start a cells = refuse 11 at
 enterCondition v at (headed w) a cells = refuse 11 at
 enterCondition v at (ruled w rules r) a cells = addCondition v at w rules r a cells
 
+-- what a field adds to the sheet so far; fields of vocabularies and requests do not belong here
 abbrev pub enter : List Attribute → ℕ → ℕ → Progress → Said → Answer Progress
 enter v k at p (way w) = enterWay at p w
 enter v k at p (rule d) = enterRule v k at p d

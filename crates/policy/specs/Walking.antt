@@ -21,6 +21,7 @@ pub record Tally : Type 0 where
   pub none : Bool
   pub value : ℕ
 
+-- no rule has matched yet
 abbrev pub noTally : Tally
 noTally = record { none = true; value = 0 }
 
@@ -42,6 +43,7 @@ allMet [] = true
 allMet (None ∷ rest) = allMet rest
 allMet (Some b ∷ rest) = b && allMet rest
 
+-- an attribute was named, and its cell is among those named
 abbrev pub wasMet : Option Bool → Bool
 wasMet None = false
 wasMet (Some b) = b
@@ -62,6 +64,7 @@ mayFollow begun tag = eqb tag 0x1F
 mayFollow (headed w) tag = eqb tag 0x20
 mayFollow (judging w y d seen) tag = eqb tag 0x20 || (eqb tag 0x21 || eqb tag 0x22)
 
+-- the way stands first, and only there
 abbrev pub enterWay : ℕ → Walked → ℕ → Answer Walked
 enterWay at begun w = Ok (headed w)
 enterWay at (headed v) w = refuse 11 at
@@ -71,6 +74,7 @@ enterWay at (judging v y d seen) w = refuse 11 at
 abbrev pub openRule : ℕ → ℕ → ℕ → ℕ → Tally → ℕ → Answer Walked
 openRule n k at w y d = cond (leb 1 d && ltb d k) (Ok (judging w y d (replicate n None))) (refuse 13 at)
 
+-- a rule closes the one before it and opens its own
 abbrev pub enterRule : Tables → ℕ → ℕ → Walked → ℕ → Answer Walked
 enterRule t n at begun d = refuse 11 at
 enterRule t n at (headed w) d = openRule n (t .size) at w noTally d
@@ -80,12 +84,14 @@ enterRule t n at (judging w y e seen) d = openRule n (t .size) at w (closed t w 
 abbrev pub noted : List ℕ → Seen → ℕ → List ℕ → Seen
 noted cells seen i cs = set seen i (Some (wasMet (getD seen i None) || isAmong (getD cells i 0) cs))
 
+-- a condition notes whether the cell of its attribute is among those named
 abbrev pub enterCondition : List Attribute → List ℕ → ℕ → Walked → List ℕ → (Kind → Option (List ℕ)) → Answer Walked
 enterCondition v cells at begun a named = refuse 11 at
 enterCondition v cells at (headed w) a named = refuse 11 at
 enterCondition v cells at (judging w y d seen) a named =
     given (place a (namesOf v)) 23 at (λ i. given (named (attributeAt v i .kind)) 24 at (λ cs. Ok (judging w y d (noted cells seen i cs))))
 
+-- what a field changes in the walk; fields of vocabularies and requests do not belong here
 abbrev pub enter : Tables → List Attribute → List ℕ → ℕ → Walked → Said → Answer Walked
 enter t v cells at p (way w) = enterWay at p w
 enter t v cells at p (rule d) = enterRule t (length v) at p d

@@ -13,6 +13,7 @@ pub record Told : Type 0 where
   pub place : ℕ
   pub layer : ℕ
 
+-- a refusal by its number and place; the number gives the layer
 abbrev pub told : ℕ → ℕ → Told
 told n at = record { number = n; place = at; layer = layerOf n }
 
@@ -20,6 +21,7 @@ told n at = record { number = n; place = at; layer = layerOf n }
 abbrev pub toldBy : Refusal → Told
 toldBy r = told (numberOf (r .cause)) (r .place)
 
+-- a value, or a refusal
 abbrev pub Answer : Type 0 → Type 0
 Answer X = Result X Told
 

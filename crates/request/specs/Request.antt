@@ -35,6 +35,7 @@ give v at st a cell =
     given (place a (namesOf v)) 23 at
     (λ i. givenCell at st i (cell (attributeAt v i .kind)))
 
+-- what a field gives; only choices and measures belong into a request
 abbrev pub takeIn : List Attribute → ℕ → Given → Said → Answer Given
 takeIn v at st (choice a w) = give v at st a (λ k. valueCell k w)
 takeIn v at st (measure a x) = give v at st a (λ k. numberCell k x)
@@ -55,6 +56,7 @@ allGiven end [] = Ok []
 allGiven end (None ∷ st) = refuse 26 end
 allGiven end (Some c ∷ st) = andThen (allGiven end st) (λ cs. Ok (c ∷ cs))
 
+-- no attribute has its cell yet
 abbrev pub noneGiven : List Attribute → Given
 noneGiven v = replicate (length v) None
 
@@ -77,14 +79,17 @@ abbrev pub fieldBy : List ℕ → Label → Framed
 fieldBy n (by-name w) = framed 0x31 (n ++ 0x3D ∷ w)
 fieldBy n (by-number z) = framed 0x32 (n ++ 0x3D ∷ numberBytes z)
 
+-- the field that gives an attribute the cell
 abbrev pub fieldFor : List ℕ → Kind → ℕ → Framed
 fieldFor n k c = fieldBy n (labelOf k c)
 
+-- one field for each attribute, in the order of the vocabulary
 abbrev pub fieldsFor : List Attribute → List ℕ → List Framed
 fieldsFor [] cells = []
 fieldsFor (a ∷ v) [] = []
 fieldsFor (a ∷ v) (c ∷ cells) = fieldFor (a .name) (a .kind) c ∷ fieldsFor v cells
 
+-- the request laid down for a list of cells
 abbrev pub requestFor : List Attribute → List ℕ → List ℕ
 requestFor v cells = sheetBytes (fieldsFor v cells)
 
@@ -93,6 +98,7 @@ pub record ReadsBack (v : List Attribute) (cells : List ℕ) : Type 0 where
   pub reads-as-its-cells : requestOf v (requestFor v cells) ≡ Ok cells
   pub fits-in-288-bytes : length (requestFor v cells) ≤ 288
 
+-- the request written for cells of a proper vocabulary is read as these cells
 abbrev pub RequestsReadBack : Type 0
 RequestsReadBack = (v : List Attribute) (cells : List ℕ) → Proper v → Cells (shapeOf v) cells → ReadsBack v cells
 

@@ -21,6 +21,7 @@ abbrev pub cellFrom : ℕ → List ℤ → ℤ → Option ℕ
 cellFrom i [] x = None
 cellFrom i (cut ∷ zs) x = cond (ltZ x cut) (endingAt i) (cellFrom (suc i) zs x)
 
+-- the cell of a number between cuts, counted from 0
 abbrev pub cellOf : List ℤ → ℤ → Option ℕ
 cellOf zs x = cellFrom 0 zs x
 
@@ -42,6 +43,7 @@ pub record CellFound (zs : List ℤ) (x : ℤ) : Type 0 where
   pub none-from-the-last-on : ltZ x (cut zs (length zs - 1)) ≡ false → cellOf zs x ≡ None
   pub none-only-there : cellOf zs x ≡ None → (ltZ x (cut zs 0) ≡ true) ⊎ (ltZ x (cut zs (length zs - 1)) ≡ false)
 
+-- for rising cuts, the cell is that of the last cut not above the number
 abbrev pub CellIsOfTheLastCutNotAbove : Type 0
 CellIsOfTheLastCutNotAbove = (zs : List ℤ) (x : ℤ) → 1 ≤ length zs → rises zs ≡ true → CellFound zs x
 
@@ -50,6 +52,7 @@ CellIsOfTheLastCutNotAbove = (zs : List ℤ) (x : ℤ) → 1 ≤ length zs → r
 abbrev pub workedCuts : List ℤ
 workedCuts = negsuc 199 ∷ pos 70 ∷ pos 350 ∷ []
 
+-- cells of numbers at, below and beyond the worked cuts
 pub record WorkedCells : Type 0 where
   pub at-the-first-cut : cellOf workedCuts (negsuc 199) ≡ Some 0
   pub just-below-a-cut : cellOf workedCuts (pos 69) ≡ Some 0

@@ -10,5 +10,6 @@ abbrev pub cellsIn : Kind → ℕ
 cellsIn (Valued n) = n .len
 cellsIn (Ranged c) = c .len - 1
 
+-- how many cells each attribute has, as the code keeps them
 abbrev pub countsIn : List Attribute → List ℕ
 countsIn items = map (λ a. cellsIn (a .kind)) items

@@ -39,6 +39,7 @@ pub record OneToOne (shape : List ℕ) : Type 0 where
   pub number-of-its-cells : (g : ℕ) → g < grid shape → number shape (cellsAt shape g) ≡ g
   pub cells-of-its-number : (cells : List ℕ) → Cells shape cells → cellsAt shape (number shape cells) ≡ cells
 
+-- in every shape cells and grid numbers correspond one to one
 abbrev pub CellsAndNumbersCorrespond : Type 0
 CellsAndNumbersCorrespond = (shape : List ℕ) → OneToOne shape
 
@@ -55,6 +56,7 @@ pub record Tested (shape cells : List ℕ) : Type 0 where
   pub what-passes-is-cells : areCells shape cells ≡ true → Cells shape cells
   pub cells-pass : Cells shape cells → areCells shape cells ≡ true
 
+-- in every shape the test for cells holds exactly of its lists of cells
 abbrev pub CellsAreTested : Type 0
 CellsAreTested = (shape cells : List ℕ) → Tested shape cells
 

@@ -28,6 +28,7 @@ abbrev pub numberCell : Kind → ℤ → Option ℕ
 numberCell (valued names) x = None
 numberCell (ranged zs) x = cellOf zs x
 
+-- two whole numbers are equal
 abbrev pub sameNumber : ℤ → ℤ → Bool
 sameNumber (pos a) (pos b) = eqb a b
 sameNumber (pos a) (negsuc b) = false
@@ -49,6 +50,7 @@ pub data Label : Type 0 where
   by-name : List ℕ → Label
   by-number : ℤ → Label
 
+-- what a request says for a cell: its value, or the lower end of its range
 abbrev pub labelOf : Kind → ℕ → Label
 labelOf (valued names) c = by-name (getD names c [])
 labelOf (ranged zs) c = by-number (getD zs c (pos 0))

@@ -25,22 +25,28 @@ use Rattle.vocabulary.specs.Vocabulary as said
 abbrev pub nameAt : List ℕ → Span → List ℕ
 nameAt bs s = take (s .len) (drop (s .from) bs)
 
+-- the names that spans cut out of the bytes
 abbrev pub namesIn : List ℕ → Names → List (List ℕ)
 namesIn bs n = map (nameAt bs) (take (n .len) (n .spans))
 
+-- the cuts that count
 abbrev pub cutsIn : Cuts → List ℤ
 cutsIn c = take (c .len) (c .numbers)
 
+-- the kind of an attribute, read from the bytes
 abbrev pub kindIn : List ℕ → Kind → said.Kind
 kindIn bs (Valued n) = said.valued (namesIn bs n)
 kindIn bs (Ranged c) = said.ranged (cutsIn c)
 
+-- an attribute, read from the bytes
 abbrev pub attributeIn : List ℕ → Attribute → said.Attribute
 attributeIn bs a = said.named (nameAt bs (a .name)) (kindIn bs (a .kind))
 
+-- the attributes that count, read from the bytes
 abbrev pub attributesIn : List ℕ → Attributes → List said.Attribute
 attributesIn bs v = map (attributeIn bs) (take (v .len) (v .items))
 
+-- how far reading has come, read from the bytes
 abbrev pub progressIn : List ℕ → List said.Attribute → State → said.Progress
 progressIn bs whole Start = said.start
 progressIn bs whole (Opened n) = said.opened whole (nameAt bs n)
@@ -58,6 +64,7 @@ RoomIn (Opened n) len size = len < 8
 RoomIn (Listing n names) len size = (len < 8) × (size * names .len ≤ 4096)
 RoomIn (Bounded n cuts) len size = (len < 8) × (size * (cuts .len - 1) ≤ 4096)
 
+-- what a reader keeps has room in its arrays
 abbrev pub Room : Reader → Type 0
 Room r = RoomIn (r .state) (r .whole .len) (r .whole .size)
 

@@ -23,10 +23,12 @@ pub data Kind : Type 0 where
   valued : List (List ℕ) → Kind
   ranged : List ℤ → Kind
 
+-- an attribute: its name and its kind
 pub record Attribute : Type 0 where
   pub name : List ℕ
   pub kind : Kind
 
+-- the attribute of a name and a kind
 abbrev pub named : List ℕ → Kind → Attribute
 named n k = record { name = n; kind = k }
 
@@ -35,12 +37,15 @@ abbrev pub count : Kind → ℕ
 count (valued names) = length names
 count (ranged zs) = length zs - 1
 
+-- how many cells each attribute has
 abbrev pub shapeOf : List Attribute → List ℕ
 shapeOf v = map (λ a. count (a .kind)) v
 
+-- the names of the attributes
 abbrev pub namesOf : List Attribute → List (List ℕ)
 namesOf v = map (λ a. a .name) v
 
+-- one place further on
 abbrev pub later : Option ℕ → Option ℕ
 later None = None
 later (Some i) = Some (suc i)
@@ -50,6 +55,7 @@ abbrev pub place : List ℕ → List (List ℕ) → Option ℕ
 place n [] = None
 place n (m ∷ ms) = cond (equal n m) (Some 0) (later (place n ms))
 
+-- the name is among those given
 abbrev pub isKnown : List ℕ → List (List ℕ) → Bool
 isKnown n [] = false
 isKnown n (m ∷ ms) = equal n m || isKnown n ms
@@ -92,18 +98,21 @@ addValue at whole n names w =
     cond (leb 16 (length names)) (refuse 20 at)
     (cond (isKnown w names) (refuse 22 at) (inGrid at whole (suc (length names)) (listing whole n (names ++ w ∷ []))))
 
+-- a value follows its attribute or another value
 abbrev pub enterValue : ℕ → Progress → List ℕ → Answer Progress
 enterValue at start w = refuse 11 at
 enterValue at (opened whole n) w = addValue at whole n [] w
 enterValue at (listing whole n names) w = addValue at whole n names w
 enterValue at (bounded whole n zs) w = refuse 11 at
 
+-- cuts follow their attribute, once
 abbrev pub enterCuts : ℕ → Progress → List ℤ → Answer Progress
 enterCuts at start zs = refuse 11 at
 enterCuts at (opened whole n) zs = inGrid at whole (length zs - 1) (bounded whole n zs)
 enterCuts at (listing whole n names) zs = refuse 11 at
 enterCuts at (bounded whole n ys) zs = refuse 11 at
 
+-- what a field adds to the vocabulary so far; fields of policies and requests do not belong here
 abbrev pub enter : ℕ → Progress → Said → Answer Progress
 enter at p (attribute n) = openAttribute at (wholeSoFar p) n
 enter at p (value w) = enterValue at p w
@@ -139,6 +148,7 @@ abbrev pub Distinct : List (List ℕ) → Type 0
 Distinct [] = Unit {0}
 Distinct (x ∷ xs) = All (λ y. y ≢ x) xs × Distinct xs
 
+-- 1 to 16 distinct names, or 2 to 17 rising cuts
 abbrev pub ProperKind : Kind → Type 0
 ProperKind (valued names) = (1 ≤ length names) × (length names ≤ 16) × All (λ n. isName n ≡ true) names × Distinct names
 ProperKind (ranged zs) = (2 ≤ length zs) × (length zs ≤ 17) × All (SFits w32) zs × (rises zs ≡ true)
@@ -156,5 +166,6 @@ pub record ReadProper (v : List Attribute) : Type 0 where
   pub is-proper : Proper v
   pub one-attribute-at-least : 1 ≤ length v
 
+-- a vocabulary that is read has what every vocabulary must have
 abbrev pub WhatIsReadIsProper : Type 0
 WhatIsReadIsProper = (bs : List ℕ) (v : List Attribute) → vocabularyOf bs ≡ Ok v → ReadProper v
