@@ -44,7 +44,7 @@ fn add_attribute(sheet: &mut Vec<u8>, name: u8, values: u8) -> Result<(), AllocE
 }
 
 /// The sheet that a text writes.
-pub fn sheet(heap: Global, text: &str) -> Result<Vec<u8>, Fail> {
+pub(crate) fn sheet(heap: Global, text: &str) -> Result<Vec<u8>, Fail> {
     let mut bytes = Vec::new(heap);
     let mut name = b'a';
     for word in text.split_ascii_whitespace() {
@@ -65,7 +65,7 @@ pub fn sheet(heap: Global, text: &str) -> Result<Vec<u8>, Fail> {
 }
 
 /// The number of a layer.
-pub fn tens(layer: Layer) -> u8 {
+pub(crate) fn tens(layer: Layer) -> u8 {
     match layer {
         Layer::Fields => 1,
         Layer::Words => 2,
@@ -87,7 +87,7 @@ fn check_refusal(heap: Global, refusal: Refusal, expected: &str) -> Result<(), F
 }
 
 /// The vocabulary is read with the expected cell counts, or it is refused as expected and has no attribute.
-pub fn check_vocabulary(heap: Global, bytes: &[u8], expected: &str) -> Result<(), Fail> {
+pub(crate) fn check_vocabulary(heap: Global, bytes: &[u8], expected: &str) -> Result<(), Fail> {
     let mut vocabulary = Vocabulary::new(bytes);
     let answer = vocabulary.read();
     let shape = vocabulary.shape();
@@ -101,7 +101,7 @@ pub fn check_vocabulary(heap: Global, bytes: &[u8], expected: &str) -> Result<()
 }
 
 /// The request is read as the expected cells, or it is refused as expected.
-pub fn check_request(
+pub(crate) fn check_request(
     heap: Global,
     words: &[u8],
     request: &[u8],
@@ -117,7 +117,7 @@ pub fn check_request(
 
 /// A row is a vocabulary, or a vocabulary, `|` and a request, and then `->` and the answer.
 /// Where nothing stands before `|`, the vocabulary is the example.
-pub fn check_row(heap: Global, row: &str) -> Result<(), Fail> {
+pub(crate) fn check_row(heap: Global, row: &str) -> Result<(), Fail> {
     let (sheets, expected) = row.split_once(" -> ").ok_or("no answer")?;
     let Some((words, request)) = sheets.split_once('|') else {
         return check_vocabulary(heap, &sheet(heap, sheets)?, expected);
