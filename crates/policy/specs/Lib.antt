@@ -7,4 +7,6 @@ pub mod Matching
 pub mod Meaning
 pub mod Rules
 pub mod Sheets
+pub mod Tallies
 pub mod Walking
+pub mod Walks

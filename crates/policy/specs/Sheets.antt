@@ -12,10 +12,11 @@ use Rattle.std.specs.declared.result.Result.the-variants.{Ok, Err}
 use Rattle.refusal.specs.Answers.{Answer, refuse, andThen, given}
 use Rattle.fields.specs.Fields.{Framed, reading, limited, when, Said, attribute, value, cuts, way, rule, choice, range, measure, saidBy}
 use Rattle.algebra.specs.Tables.{Tables}
+use Rattle.algebra.specs.Laws.{ShortCutLaws}
 use Rattle.vocabulary.specs.Grid.{grid, cellsAt}
 use Rattle.vocabulary.specs.Vocabulary.{Kind, Attribute, shapeOf, namesOf, place}
 use Rattle.vocabulary.specs.Lookup.{attributeAt, valueCell, cutOf}
-use Rattle.policy.specs.Meaning.{Meaning}
+use Rattle.policy.specs.Meaning.{Meaning, Lawful}
 use Rattle.policy.specs.Rules.{Rule, decides}
 
 -- ---- conditions
@@ -127,3 +128,7 @@ sheetMeaning t v bs = record {
   size = t .size;
   decision = λ g. cond (ltb g (grid (shapeOf v))) (decidedAt t (policyOf v (t .size) bs) (cellsAt (shapeOf v) g)) 0;
 }
+
+-- in every algebra each decision is a code, and 0 beyond the grid
+abbrev pub SheetsMeanCodes : Type 0
+SheetsMeanCodes = (t : Tables) → ShortCutLaws t → (v : List Attribute) (bs : List ℕ) → Lawful (sheetMeaning t v bs)

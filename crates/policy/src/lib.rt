@@ -4,3 +4,6 @@ pub mod grid;
 pub mod laws;
 pub mod sheets;
 pub mod source;
+pub mod tally;
+pub mod walk;
+pub mod walking;

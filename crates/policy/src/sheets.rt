@@ -1,5 +1,5 @@
 //! Laws of policy sheets, each the contract of a function that does nothing.
-ghost use Rattle.policy.specs.Sheets.{ReadingGoesOn};
+ghost use Rattle.policy.specs.Sheets.{ReadingGoesOn, SheetsMeanCodes};
 ghost use Rattle.policy.specs.Example.{WorkedSheets};
 ghost use Rattle.policy.specs.Walking.{WalkDecides};
 
@@ -16,4 +16,9 @@ pub fn worked_sheets()
 /// A walk through a sheet answers what its rules decide, and refuses what the reader refuses.
 pub fn walk_decides()
     ensures { λ _. ⌜ WalkDecides ⌝ }
+{}
+
+/// What a sheet means is lawful: decisions below the size, and 0 beyond the grid.
+pub fn sheets_mean_codes()
+    ensures { λ _. ⌜ SheetsMeanCodes ⌝ }
 {}
