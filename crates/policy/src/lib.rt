@@ -2,6 +2,7 @@
 pub mod counting;
 pub mod grid;
 pub mod laws;
+pub mod policy_sheet;
 pub mod sheets;
 pub mod source;
 pub mod tally;

@@ -8,15 +8,14 @@ use vocabulary::record::Shape;
 pub trait Source {
     ghost meaning: { Self → Meaning };
 
-    law lawful: { (s : Self) → Lawful (meaning s) };
-
     /// The shape of the grid.
     fn shape(&self) -> Shape
         ensures { λ r. ⌜ countsOf r ≡ meaning (now (self .entry)) .shape ⌝ };
 
-    /// The size of the algebra.
+    /// The size of the algebra: every decision is below it, and 0 beyond the grid.
     fn size(&self) -> u8
-        ensures { λ r. ⌜ r ≡ meaning (now (self .entry)) .size ⌝ };
+        ensures size_of_the_algebra { λ r. ⌜ r ≡ meaning (now (self .entry)) .size ⌝ }
+        ensures decisions_are_lawful { λ _. ⌜ Lawful (meaning (now (self .entry))) ⌝ };
 
     /// The decision for a grid number; the meaning stays.
     fn consult(&mut self, number: usize) -> u8
