@@ -21,7 +21,7 @@ pub struct CopiedTables {
 impl CopiedTables {
     /// A copy of the tables of any algebra: it means the same tables.
     pub fn of<G: Algebra>(algebra: &G) -> CopiedTables
-        ensures { laid_out result.size result.sums result.meets result.negations ≡ tables algebra.now }
+        ensures { laid_out result.size result.sums result.meets result.negations ≡ G.tables algebra.now }
     {
         let size = algebra.size();
         let sums = sums_of(algebra);
@@ -74,7 +74,7 @@ impl Algebra for CopiedTables {
 
 /// The sums, row after row.
 fn sums_of<G: Algebra>(algebra: &G) -> [u8; 256]
-    ensures { (i : ℕ) → i < 256 → slice_index result i ≡ (tables algebra.now).sum (i / 16) (i % 16) }
+    ensures { (i : ℕ) → i < 256 → slice_index result i ≡ (G.tables algebra.now).sum (i / 16) (i % 16) }
 {
     let mut rows = [0u8; 256];
     for i in 0..256usize {
@@ -85,7 +85,7 @@ fn sums_of<G: Algebra>(algebra: &G) -> [u8; 256]
 
 /// The meets, row after row.
 fn meets_of<G: Algebra>(algebra: &G) -> [u8; 256]
-    ensures { (i : ℕ) → i < 256 → slice_index result i ≡ (tables algebra.now).meet (i / 16) (i % 16) }
+    ensures { (i : ℕ) → i < 256 → slice_index result i ≡ (G.tables algebra.now).meet (i / 16) (i % 16) }
 {
     let mut rows = [0u8; 256];
     for i in 0..256usize {
@@ -96,7 +96,7 @@ fn meets_of<G: Algebra>(algebra: &G) -> [u8; 256]
 
 /// The negations.
 fn negations_of<G: Algebra>(algebra: &G) -> [u8; 16]
-    ensures { (i : ℕ) → i < 16 → slice_index result i ≡ (tables algebra.now).negation i }
+    ensures { (i : ℕ) → i < 16 → slice_index result i ≡ (G.tables algebra.now).negation i }
 {
     let mut row = [0u8; 16];
     for i in 0..16usize {

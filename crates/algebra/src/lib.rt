@@ -66,7 +66,7 @@ pub trait Algebra {
 
 /// The sum of three codes, the same in every grouping and order; 0 where one is no code.
 pub fn sum_of_three<G: Algebra>(algebra: &G, a: u8, b: u8, c: u8) -> u8
-    ensures { SumOfThree (tables algebra.now) a b c result }
+    ensures { SumOfThree (G.tables algebra.now) a b c result }
 {
     let size = algebra.size();
     if a >= size || b >= size || c >= size {

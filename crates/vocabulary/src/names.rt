@@ -43,7 +43,7 @@ impl Named for Attribute {
 
 /// Where a name stands among the names of `items`.
 fn find<T: Named>(sheet: &[u8], items: &[T], name: &[u8]) -> Option<usize>
-    ensures { result ≡ place name.now (map (λ x. name_at sheet.now (spanned x)) items.now) }
+    ensures { result ≡ place name.now (map (λ x. name_at sheet.now (T.spanned x)) items.now) }
 {
     for (i, item) in items.iter().enumerate() {
         if name_at(sheet, item.span()) == name {

@@ -13,25 +13,25 @@ use Rattle.building.proofs.up.Goals as goal
 of_the_shape : (shape : List ℕ) (j c : ℕ) → c < get_or shape j 0 → j < length shape
 of_the_shape shape j c h = ⊎_elim (λ l. l) (λ l. let z = get_or_past shape j 0 l in absurd (omega arith)) (cases_lt j (length shape))
 
-pub overflow-add-result : goal.overflow-add-result
-overflow-add-result g c =
+pub overflow_add-result : goal.overflow_add-result
+overflow_add-result g c =
     let low = of_the_shape c.args.counts.now c.in-Some.frame.level c.in-Some.frame.cell (search rules) in
-    omega (arith, low, c.requires.3)
+    omega (arith, low, c.requires.counts_len_bound)
 
 pub returns-then-frame-n : goal.returns-then-frame-n
 returns-then-frame-n g c =
-    let popped = c.in-Some.ensures.popped-or-empty in
+    let popped = c.in-Some.ensures.popped_or_empty in
     let fs = frames c.pop.new.self.slots.now c.pop.new.self.len in
     let e : frames c.args.stack.now.slots.now c.args.stack.now.len ≡ c.in-Some.frame ∷ fs =
-    frames_onto _ _ c.in-Some.frame popped.x_is_newest ∙ ap (λ slots. c.in-Some.frame ∷ frames slots c.pop.new.self.len) (sym c.pop.ensures.no-slot-written)
+    frames_onto _ _ c.in-Some.frame popped.x_is_newest ∙ ap (λ slots. c.in-Some.frame ∷ frames slots c.pop.new.self.len) (sym c.pop.ensures.no_slot_written)
     in
     record {
-      same-slots = c.pop.ensures.same-slots;
-      as-many-slots = ap length c.pop.ensures.no-slot-written;
+      same_slots = c.pop.ensures.same_slots;
+      as_many_slots = ap length c.pop.ensures.no_slot_written;
       same_bytes = refl;
-      live-stays = unwritten _ _ _ _ refl refl;
-      less-is-left = omega arith;
-      walk-goes-on =
+      live_stays = unwritten _ _ _ _ refl refl;
+      less_is_left = omega arith;
+      walk_goes_on =
           λ aim h.
           let s =
           at_a_cell (g.P.Places.stands c.args.places.now) (g.P.Places.says c.args.places.now) c.args.counts.now aim c.args.nodes.now c.args.marking.now.bytes.now c.in-Some.frame fs c.args.link
@@ -42,68 +42,68 @@ returns-then-frame-n g c =
 
 pub returns-in-Ok : goal.returns-in-Ok
 returns-in-Ok g c =
-    let popped = c.in-Some.ensures.popped-or-empty in
+    let popped = c.in-Some.ensures.popped_or_empty in
     let fs = frames c.pop.new.self.slots.now c.pop.new.self.len in
     let e : frames c.args.stack.now.slots.now c.args.stack.now.len ≡ c.in-Some.frame ∷ fs =
-    frames_onto _ _ c.in-Some.frame popped.x_is_newest ∙ ap (λ slots. c.in-Some.frame ∷ frames slots c.pop.new.self.len) (sym c.pop.ensures.no-slot-written)
+    frames_onto _ _ c.in-Some.frame popped.x_is_newest ∙ ap (λ slots. c.in-Some.frame ∷ frames slots c.pop.new.self.len) (sym c.pop.ensures.no_slot_written)
     in
-    let pushed = c.in-Ok.ensures.pushed-or-full in
+    let pushed = c.in-Ok.ensures.pushed_or_full in
     let e' = frames_onto _ _ _ pushed.x_is_newest in
     let more : c.in-Some.frame.cell + 1 < get_or c.args.counts.now c.in-Some.frame.level 0 = search rules in
     record {
-      same-slots = c.in-Ok.ensures.same-slots ∙ c.pop.ensures.same-slots;
-      as-many-slots = ap length pushed.one_slot_written ∙ length-set _ _ _ ∙ ap length c.pop.ensures.no-slot-written;
+      same_slots = c.in-Ok.ensures.same_slots ∙ c.pop.ensures.same_slots;
+      as_many_slots = ap length pushed.one_slot_written ∙ length-set _ _ _ ∙ ap length c.pop.ensures.no_slot_written;
       same_bytes = refl;
-      live-stays = unwritten _ _ _ _ refl refl;
-      less-is-left =
+      live_stays = unwritten _ _ _ _ refl refl;
+      less_is_left =
           let f = cell_falls c.args.counts.now c.in-Some.frame.level c.in-Some.frame.cell more (waiting_work c.args.counts.now fs) in
           let a = ap (waiting_work c.args.counts.now) e in
           let b = ap (waiting_work c.args.counts.now) e' in
           omega (arith, f, a, b);
-      walk-goes-on =
+      walk_goes_on =
           λ aim h.
           subst (λ fs'. Opening (g.P.Places.stands c.args.places.now) (g.P.Places.says c.args.places.now) c.args.counts.now aim c.args.nodes.now c.args.marking.now.bytes.now fs' (c.in-Some.frame.level + 1) c.child-place.result) (sym e')
           (goes_on (g.P.Places.stands c.args.places.now) (g.P.Places.says c.args.places.now) c.args.counts.now aim c.args.nodes.now c.args.marking.now.bytes.now c.in-Some.frame fs c.args.link
           (subst (λ fs'. Handing (g.P.Places.stands c.args.places.now) (g.P.Places.says c.args.places.now) c.args.counts.now aim c.args.nodes.now c.args.marking.now.bytes.now fs' c.args.link) e h)
-          more c.child-place.result (c.child-place.ensures.leads-to-the-cell aim.codes c.args.marking.now.bytes.now));
+          more c.child-place.result (c.child-place.ensures.leads_to_the_cell aim.codes c.args.marking.now.bytes.now));
     }
 
 pub returns-in-Some-reduce : goal.returns-in-Some-reduce
 returns-in-Some-reduce g c =
-    let popped = c.in-Some.ensures.popped-or-empty in
+    let popped = c.in-Some.ensures.popped_or_empty in
     let fs = frames c.pop.new.self.slots.now c.pop.new.self.len in
     let e : frames c.args.stack.now.slots.now c.args.stack.now.len ≡ c.in-Some.frame ∷ fs =
-    frames_onto _ _ c.in-Some.frame popped.x_is_newest ∙ ap (λ slots. c.in-Some.frame ∷ frames slots c.pop.new.self.len) (sym c.pop.ensures.no-slot-written)
+    frames_onto _ _ c.in-Some.frame popped.x_is_newest ∙ ap (λ slots. c.in-Some.frame ∷ frames slots c.pop.new.self.len) (sym c.pop.ensures.no_slot_written)
     in
     record {
-      same-slots = c.pop.ensures.same-slots;
-      as-many-slots = ap length c.pop.ensures.no-slot-written;
+      same_slots = c.pop.ensures.same_slots;
+      as_many_slots = ap length c.pop.ensures.no_slot_written;
       same_bytes = c.in-Some-reduce.ensures.same_bytes;
-      live-stays = reduced_stays _ _ _ _ _ _ _ _ c.in-Some-reduce.ensures.one-link-or-one-record;
-      less-is-left = let a = ap (waiting_work c.args.counts.now) e in omega (arith, a);
-      walk-goes-on =
+      live_stays = reduced_stays _ _ _ _ _ _ _ _ c.in-Some-reduce.ensures.one_link_or_one_record;
+      less_is_left = let a = ap (waiting_work c.args.counts.now) e in omega (arith, a);
+      walk_goes_on =
           λ aim h.
           hands_on (g.P.Places.stands c.args.places.now) (g.P.Places.says c.args.places.now) c.args.counts.now aim c.args.nodes.now c.args.marking.now.bytes.now c.in-Some.frame fs c.args.link
           (subst (λ fs'. Handing (g.P.Places.stands c.args.places.now) (g.P.Places.says c.args.places.now) c.args.counts.now aim c.args.nodes.now c.args.marking.now.bytes.now fs' c.args.link) e h)
-          c.cells-n.result c.cells-n.ensures c.if-cell-n.false c.reduce.new.nodes c.reduce.new.marking.bytes.now c.in-Some-reduce.whole c.in-Some-reduce.ensures.builds-the-page;
+          c.cells-n.result c.cells-n.ensures c.if-cell-n.false c.reduce.new.nodes c.reduce.new.marking.bytes.now c.in-Some-reduce.whole c.in-Some-reduce.ensures.builds_the_page;
     }
 
 pub returns-in-None : goal.returns-in-None
 returns-in-None g c =
-    let popped = c.in-Some.ensures.popped-or-empty in
+    let popped = c.in-Some.ensures.popped_or_empty in
     let fs = frames c.pop.new.self.slots.now c.pop.new.self.len in
     let e : frames c.args.stack.now.slots.now c.args.stack.now.len ≡ c.in-Some.frame ∷ fs =
-    frames_onto _ _ c.in-Some.frame popped.x_is_newest ∙ ap (λ slots. c.in-Some.frame ∷ frames slots c.pop.new.self.len) (sym c.pop.ensures.no-slot-written)
+    frames_onto _ _ c.in-Some.frame popped.x_is_newest ∙ ap (λ slots. c.in-Some.frame ∷ frames slots c.pop.new.self.len) (sym c.pop.ensures.no_slot_written)
     in
     record {
-      same-slots = c.pop.ensures.same-slots;
-      as-many-slots = ap length c.pop.ensures.no-slot-written;
+      same_slots = c.pop.ensures.same_slots;
+      as_many_slots = ap length c.pop.ensures.no_slot_written;
       same_bytes = c.in-None.ensures.same_bytes;
-      live-stays = reduced_stays _ _ _ _ _ _ _ _ c.in-None.ensures.one-link-or-one-record;
-      less-is-left = omega arith;
-      walk-goes-on =
+      live_stays = reduced_stays _ _ _ _ _ _ _ _ c.in-None.ensures.one_link_or_one_record;
+      less_is_left = omega arith;
+      walk_goes_on =
           λ aim h.
           lacks (g.P.Places.stands c.args.places.now) (g.P.Places.says c.args.places.now) c.args.counts.now aim c.args.nodes.now c.args.marking.now.bytes.now c.in-Some.frame fs c.args.link
           (subst (λ fs'. Handing (g.P.Places.stands c.args.places.now) (g.P.Places.says c.args.places.now) c.args.counts.now aim c.args.nodes.now c.args.marking.now.bytes.now fs' c.args.link) e h)
-          c.cells-n.result c.cells-n.ensures c.if-cell-n.false c.reduce.new.nodes c.reduce.new.marking.bytes.now c.in-None.ensures.builds-the-page;
+          c.cells-n.result c.cells-n.ensures c.if-cell-n.false c.reduce.new.nodes c.reduce.new.marking.bytes.now c.in-None.ensures.builds_the_page;
     }

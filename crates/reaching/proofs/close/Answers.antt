@@ -11,7 +11,7 @@ loop-level-preserved c =
       keeps_on c.args.marking.now.bytes.now marks c.sweep.new.marking.bytes.now inv.1 c.sweep.ensures.marks_stay,
       λ k roots sound many h.
           subst (ClosedBelow c.args.counts.now c.args.nodes.now roots c.sweep.new.marking.bytes.now) (sym (add-one c.loop-level.level))
-          (c.sweep.ensures.one-level-more-is-closed k c.args.counts.now roots sound (inv.1.as_many_bytes ∙ many) refl (inv.2 k roots sound many h)),
+          (c.sweep.ensures.one_level_more_is_closed k c.args.counts.now roots sound (inv.1.as_many_bytes ∙ many) refl (inv.2 k roots sound many h)),
     )
 
 pub returns : goal.returns
@@ -20,5 +20,5 @@ returns c =
     record {
       same_bytes = inv.0;
       marks_stay = inv.1;
-      marks-are-closed = λ k roots sound many h. all_closed k c.args.counts.now c.args.nodes.now roots sound c.loop-level.marking.bytes.now c.loop-level.level c.loop-level-test.false (inv.2 k roots sound many h);
+      marks_are_closed = λ k roots sound many h. all_closed k c.args.counts.now c.args.nodes.now roots sound c.loop-level.marking.bytes.now c.loop-level.level c.loop-level-test.false (inv.2 k roots sound many h);
     }

@@ -9,8 +9,8 @@ loop-root-preserved c =
     let roots = c.args.roots.now in
     let i = c.loop-root.root-index in
     let marks = c.loop-root.marking.bytes.now in (
-      c.mark-root.ensures.same_bytes ∙ c.loop-root.invariant.0,
-      ap (marked_by_all (roots_in (drop (i + 1) roots))) c.mark-root.ensures.record-is-marked
+      c.mark_root.ensures.same_bytes ∙ c.loop-root.invariant.0,
+      ap (marked_by_all (roots_in (drop (i + 1) roots))) c.mark_root.ensures.record_is_marked
           ∙ sym (ap (λ os. marked_by_all (roots_in os) marks) (drop_more roots i None c.loop-root-test.true) ∙ roots_more (get_or roots i None) (drop (i + 1) roots) marks)
           ∙ c.loop-root.invariant.1,
     )
@@ -18,5 +18,5 @@ loop-root-preserved c =
 pub returns : goal.returns
 returns c = record {
   same_bytes = c.loop-root.invariant.0;
-  records-of-the-roots-are-marked = sym (at_drop_all (λ os. marked_by_all (roots_in os) c.loop-root.marking.bytes.now) c.args.roots.now c.loop-root.root-index c.loop-root-test.false) ∙ c.loop-root.invariant.1;
+  records_of_the_roots_are_marked = sym (at_drop_all (λ os. marked_by_all (roots_in os) c.loop-root.marking.bytes.now) c.args.roots.now c.loop-root.root-index c.loop-root-test.false) ∙ c.loop-root.invariant.1;
 }

@@ -11,8 +11,8 @@ loop-number-preserved c =
     let inv = c.loop-number.invariant in
     let before = c.args.marking.now.bytes.now in
     let marks = c.loop-number.marking.bytes.now in
-    let after = c.sweep-one.ensures.branches-of-a-live-record-are-marked in (
-      c.sweep-one.ensures.same_bytes ∙ inv.0,
+    let after = c.sweep_one.ensures.branches_of_a_live_record_are_marked in (
+      c.sweep_one.ensures.same_bytes ∙ inv.0,
       keeps_on before marks _ inv.1 (subst (StaysMarked marks) (sym after) (one_keeps c.args.level c.args.cells _ c.loop-number.number marks)),
       λ k shape roots sound many cells h.
           subst (λ ms. SweptTo shape c.args.nodes.now roots c.args.level ms (c.loop-number.number + 1)) (sym after)
@@ -25,6 +25,6 @@ returns c =
     record {
       same_bytes = inv.0;
       marks_stay = inv.1;
-      one-level-more-is-closed = λ k shape roots sound many cells h.
+      one_level_more_is_closed = λ k shape roots sound many cells h.
           sweep_ends shape c.args.nodes.now roots c.args.level c.loop-number.marking.bytes.now c.loop-number.number (omega (arith, inv.1.as_many_bytes, many)) (inv.2 k shape roots sound many cells h);
     }

@@ -2,7 +2,7 @@ use Rattle.std.proofs.Common.{◌≡◌, false, length, get_or, sym, refl, ◌�
 use Rattle.std.proofs.lemmas.List.{get_or_past}
 use Rattle.std.proofs.lemmas.Bool.{cases_lt, both_ways, eqb-true, eq-eqb}
 use Rattle.table.proofs.find.Goals as goal
-use Rattle.table.proofs.find.Goals.{else-is-marked-via-then-is-marked+else-alike, else-is-marked-via-else-is-marked}
+use Rattle.table.proofs.find.Goals.{else-is_marked-via-then-is_marked+else-alike, else-is-marked-via-else-is-marked}
 
 pub returns : goal.returns
 returns c s m a =
@@ -11,13 +11,13 @@ returns c s m a =
 
 pub returns-then-alike : goal.returns-then-alike
 returns-then-alike c =
-    (omega arith, eqb-true (get_or c.args.marking.now.bytes.now c.loop-i.i 0) 1 (sym c.if-is-marked.ensures), c.if-alike.ensures.0 refl)
+    (omega arith, eqb-true (get_or c.args.marking.now.bytes.now c.loop-i.i 0) 1 (sym c.if-is_marked.ensures), c.if-alike.ensures.0 refl)
 
 pub loop-i-preserved : goal.loop-i-preserved
 loop-i-preserved c =
     below_more _ _ c.loop-i.invariant
     (λ m a.
-    elim c.else-is-marked.branch [
-      | else-is-marked-via-then-is-marked+else-alike w ↦ both_ways false refl (w.if-alike.ensures.1 a)
-      | else-is-marked-via-else-is-marked w ↦ both_ways false refl (w.if-is-marked.ensures ∙ eq-eqb (get_or c.args.marking.now.bytes.now c.loop-i.i 0) 1 m)
+    elim c.else-is_marked.branch [
+      | else-is_marked-via-then-is_marked+else-alike w ↦ both_ways false refl (w.if-alike.ensures.1 a)
+      | else-is-marked-via-else-is-marked w ↦ both_ways false refl (w.if-is_marked.ensures ∙ eq-eqb (get_or c.args.marking.now.bytes.now c.loop-i.i 0) 1 m)
     ])

@@ -22,12 +22,12 @@ loop-j-preserved c =
     let all = length-map sheets list_now in
     let taken = c.loop-j-test.true in
     let within : j < length ss = omega arith in
-    let numbers : c.how-many-differ-numbers.result ≡ how_many_differ (decision_at v s) (decision_at v (get_or ss j [])) (grid (shape_of v)) =
-    c.how-many-differ-numbers.ensures
+    let numbers : c.how_many_differ-numbers.result ≡ how_many_differ (decision_at v s) (decision_at v (get_or ss j [])) (grid (shape_of v)) =
+    c.how_many_differ-numbers.ensures
     ∙ ap₂ (λ a b. how_many_differ (decision_at v a) (decision_at v b) (grid (shape_of v))) (sym (get_or-map list_now sheets i _)) (sym (get_or-map list_now sheets j _))
     in
     let pushed : map difference_shown (vec_items c.push.new.self) ≡ before ++ difference v i s j (get_or ss j []) ∷ [] =
-    ap (map difference_shown) c.in-ok-push.ensures.items
+    ap (map difference_shown) c.in_ok-push.ensures.items
     ∙ map-append difference_shown (vec_items c.loop-j.differences) _
     ∙ ap (λ n. before ++ record { first = i; second = j; numbers = n } ∷ []) numbers
     in

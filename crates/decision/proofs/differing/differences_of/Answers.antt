@@ -18,7 +18,7 @@ loop-i-preserved c =
     let all = length-map c.args.sheets.now list_now in
     let taken = c.loop-i-test.true in
     let within : i < length ss = omega arith in
-    ap (λ ds. ds ++ differences_from v (i + 1) (drop (i + 1) ss)) c.in-ok-compare-behind.ensures ∙ differences_more v ss i _ _ within c.loop-i.invariant
+    ap (λ ds. ds ++ differences_from v (i + 1) (drop (i + 1) ss)) c.in_ok-compare_behind.ensures ∙ differences_more v ss i _ _ within c.loop-i.invariant
 
 pub returns : goal.returns
 returns c =

@@ -6,11 +6,11 @@ use Rattle.decision.proofs.Counted.{at_most_all, counted_more}
 use Rattle.decision.proofs.differing.how_many_differ.Goals as goal
 use Rattle.decision.proofs.differing.how_many_differ.Goals.{then-differ-at, else-differ-at}
 
-pub overflow-add-count : goal.overflow-add-count
-overflow-add-count c =
+pub overflow_add-count : goal.overflow_add-count
+overflow_add-count c =
     let v = attributes_of c.args.vocabulary.now in
     let most = at_most_all (decision_at v c.args.first.now) (decision_at v c.args.second.now) c.loop-number.number in
-    let small = c.size-number-end.ensures.at-most-4096 in
+    let small = c.size-number-end.ensures.at_most_4096 in
     let is = c.loop-number.invariant in
     omega arith
 
@@ -19,9 +19,9 @@ loop-number-preserved c =
     let v = attributes_of c.args.vocabulary.now in
     let more = counted_more (decision_at v c.args.first.now) (decision_at v c.args.second.now) c.loop-number.number in
     let before = c.loop-number.invariant in
-    elim c.if-differ-at.branch [
-      | then-differ-at w ↦ omega (arith, w.count-is, more true w.if-differ-at.ensures)
-      | else-differ-at w ↦ omega (arith, w.count-is, more false w.if-differ-at.ensures)
+    elim c.if-differ_at.branch [
+      | then-differ-at w ↦ omega (arith, w.count-is, more true w.if-differ_at.ensures)
+      | else-differ-at w ↦ omega (arith, w.count-is, more false w.if-differ_at.ensures)
     ]
 
 pub returns : goal.returns
@@ -31,4 +31,4 @@ returns c =
     let kept = c.loop-number.auto.number-end in
     let all : c.loop-number.number ≡ c.size-number-end.result = omega arith in
     c.loop-number.invariant
-    ∙ ap (how_many_differ (decision_at v c.args.first.now) (decision_at v c.args.second.now)) (all ∙ c.size-number-end.ensures.product-of-the-counts ∙ ap grid c.shape.ensures)
+    ∙ ap (how_many_differ (decision_at v c.args.first.now) (decision_at v c.args.second.now)) (all ∙ c.size-number-end.ensures.product_of_the_counts ∙ ap grid c.shape.ensures)

@@ -20,9 +20,9 @@ returns c =
     let raw = c.args.raw.now in
     let v = attributes_of c.args.vocabulary.now in
     let t : eqb raw.tag 0x04 ≡ true = grind (arith, nat_tests) in
-    let cs = cells_of c.in-ok-cells.cells in
-    let inside = read_gives_cells_lem v raw.content.now cs (sym c.in-ok-cells.ensures) in
-    let there : c.unwrap-or.result ≡ number (shape_of v) cs =
-    c.unwrap-or.ensures ∙ ap (λ o. unwrap_or o 0) (c.number-number.ensures ∙ ap₂ number_if c.shape.ensures c.as-slice.ensures ∙ number_there (shape_of v) cs inside)
+    let cs = cells_of c.in_ok-cells.cells in
+    let inside = read_gives_cells_lem v raw.content.now cs (sym c.in_ok-cells.ensures) in
+    let there : c.unwrap_or.result ≡ number (shape_of v) cs =
+    c.unwrap_or.ensures ∙ ap (λ o. unwrap_or o 0) (c.number-number.ensures ∙ ap₂ number_if c.shape.ensures c.as_slice.ensures ∙ number_there (shape_of v) cs inside)
     in
-    ap (λ n. Ok (record { grid_number = n; cells = cs })) there ∙ sym (request_read raw.at v (bare raw) cs t c.in-ok-cells.ensures)
+    ap (λ n. Ok (record { grid_number = n; cells = cs })) there ∙ sym (request_read raw.at v (bare raw) cs t c.in_ok-cells.ensures)

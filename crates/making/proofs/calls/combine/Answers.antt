@@ -12,9 +12,9 @@ returns g c =
     let o = c.args.operator in
     let shape = c.args.shape.now in
     record {
-      bytes-are-cleared = c.make-beside.ensures.bytes-are-cleared;
-      made-beside-the-roots = λ sound left right.
-          c.make-beside.ensures.made-beside-the-roots t.size sound (pairs_keep o t t.size (counts_of shape)) (pairs_fill o t t.size (counts_of shape))
+      bytes_are_cleared = c.make_beside.ensures.bytes_are_cleared;
+      made_beside_the_roots = λ sound left right.
+          c.make_beside.ensures.made_beside_the_roots t.size sound (pairs_keep o t t.size (counts_of shape)) (pairs_fill o t t.size (counts_of shape))
           (λ marks closed.
           let fits = fits_marked t.size (counts_of shape) c.args.nodes.now (roots_in c.args.roots.now) marks (counts_are_filled shape) sound closed in
           record { codes_of_the_algebra = refl; left_fits = fits c.args.left left; right_fits = fits c.args.right right });

@@ -8,13 +8,13 @@ pub returns : goal.returns
 returns g c =
     let m = g.S.Source.meaning c.args.source.now in
     let counts = counts_of c.args.shape.now in
-    let back = carried g.S.Source.meaning c.make-beside.new.places _ c.args.source.now c.make-beside.ensures.keeps-what-was-kept in
+    let back = carried g.S.Source.meaning c.make_beside.new.places _ c.args.source.now c.make_beside.ensures.keeps_what_was_kept in
     let same = back.0 in
     let stays = back.1 in
     record {
-      bytes-are-cleared = c.make-beside.ensures.bytes-are-cleared;
-      meaning-stays = ap g.S.Source.meaning (search rules) ∙ stays;
-      made-beside-the-roots = λ k sound codes.
-          c.make-beside.ensures.made-beside-the-roots k sound (spans_keep m k counts) (spans_fill m k counts)
-          (λ marks closed. record { numbers_of_what_is_left = c.size.ensures.product-of-the-counts; numbers_are_small = omega (arith, c.size.ensures.at-most-4096); decisions_are_codes = codes });
+      bytes_are_cleared = c.make_beside.ensures.bytes_are_cleared;
+      meaning_stays = ap g.S.Source.meaning (search rules) ∙ stays;
+      made_beside_the_roots = λ k sound codes.
+          c.make_beside.ensures.made_beside_the_roots k sound (spans_keep m k counts) (spans_fill m k counts)
+          (λ marks closed. record { numbers_of_what_is_left = c.size.ensures.product_of_the_counts; numbers_are_small = omega (arith, c.size.ensures.at_most_4096); decisions_are_codes = codes });
     }

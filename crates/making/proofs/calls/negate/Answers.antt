@@ -11,8 +11,8 @@ returns g c =
     let t = g.A.Algebra.tables c.args.algebra.now in
     let shape = c.args.shape.now in
     record {
-      bytes-are-cleared = c.make-beside.ensures.bytes-are-cleared;
-      made-beside-the-roots = λ sound fits.
-          c.make-beside.ensures.made-beside-the-roots t.size sound (negations_keep t t.size (counts_of shape)) (negations_fill t t.size (counts_of shape))
+      bytes_are_cleared = c.make_beside.ensures.bytes_are_cleared;
+      made_beside_the_roots = λ sound fits.
+          c.make_beside.ensures.made_beside_the_roots t.size sound (negations_keep t t.size (counts_of shape)) (negations_fill t t.size (counts_of shape))
           (λ marks closed. record { codes_of_the_algebra = refl; link_fits = fits_marked t.size (counts_of shape) c.args.nodes.now (roots_in c.args.roots.now) marks (counts_are_filled shape) sound closed c.args.link fits });
     }

@@ -10,9 +10,9 @@ returns c =
     let masks = c.args.masks.now in
     let shape = c.args.shape.now in
     record {
-      bytes-are-cleared = c.make-beside.ensures.bytes-are-cleared;
-      made-beside-the-roots = λ k code many sound fits.
-          c.make-beside.ensures.made-beside-the-roots k sound (projections_keep masks c.args.decisions k (counts_of shape)) (projections_fill masks c.args.decisions k (counts_of shape))
+      bytes_are_cleared = c.make_beside.ensures.bytes_are_cleared;
+      made_beside_the_roots = λ k code many sound fits.
+          c.make_beside.ensures.made_beside_the_roots k sound (projections_keep masks c.args.decisions k (counts_of shape)) (projections_fill masks c.args.decisions k (counts_of shape))
           (λ marks closed.
           record {
             as_many_masks_as_attributes = many;

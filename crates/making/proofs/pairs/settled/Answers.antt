@@ -10,7 +10,7 @@ returns-then-same g c =
     let same = c.same.ensures.0 c.if-same.true in (
       inr (inl same),
       λ k shape nodes marks j.
-          settled_by_same c.args.operator t laws k shape nodes marks j c.args.pair c.keeps-same.result c.kept.result same (c.keeps-same.ensures t laws) c.kept.ensures,
+          settled_by_same c.args.operator t laws k shape nodes marks j c.args.pair c.keeps_same.result c.kept.result same (c.keeps_same.ensures t laws) c.kept.ensures,
     )
 
 pub returns-then-same-2 : goal.returns-then-same-2
@@ -20,7 +20,7 @@ returns-then-same-2 g c =
     let same = c.same-2.ensures.0 c.if-same-2.true in (
       inr (inr (inl same)),
       λ k shape nodes marks j.
-          settled_by_right c.args.operator t laws k shape nodes marks j c.args.pair c.keeps-right.result c.kept-then-same-2.result same (c.keeps-right.ensures t laws) c.kept-then-same-2.ensures,
+          settled_by_right c.args.operator t laws k shape nodes marks j c.args.pair c.keeps_right.result c.kept-then-same-2.result same (c.keeps_right.ensures t laws) c.kept-then-same-2.ensures,
     )
 
 pub returns-then-same-3 : goal.returns-then-same-3
@@ -30,7 +30,7 @@ returns-then-same-3 g c =
     let same = c.same-3.ensures.0 c.if-same-3.true in (
       inr (inr (inr same)),
       λ k shape nodes marks j.
-          settled_by_left c.args.operator t laws k shape nodes marks j c.args.pair c.keeps-left.result c.kept-then-same-3.result same (c.keeps-left.ensures t laws) c.kept-then-same-3.ensures,
+          settled_by_left c.args.operator t laws k shape nodes marks j c.args.pair c.keeps_left.result c.kept-then-same-3.result same (c.keeps_left.ensures t laws) c.kept-then-same-3.ensures,
     )
 
 pub returns-in-Decision-Decision : goal.returns-in-Decision-Decision

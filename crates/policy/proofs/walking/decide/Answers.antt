@@ -7,17 +7,17 @@ use Rattle.vocabulary.specs.Record.{attributes_of}
 use Rattle.policy.proofs.Walked.{walk-decides}
 use Rattle.policy.proofs.walking.decide.Goals as goal
 
-pub returns-in-err-walk : goal.returns-in-err-walk
-returns-in-err-walk g c =
+pub returns-in_err-walk : goal.returns-in_err-walk
+returns-in_err-walk g c =
     let bs = c.args.sheet.now in
     let short : length bs ≤ 65535 = omega arith in
-    let p = err_from_is_err_and c.from-residual.result c.from-residual.ensures.1 in
-    ap (answer_by itself) p.1 ∙ ap (λ y. Err (told_by y)) p.2 ∙ sym (sheet_refused bs short _ _ _ (sym c.in-err-walk.ensures))
+    let p = err_from_is_err_and c.from_residual.result c.from_residual.ensures.1 in
+    ap (answer_by itself) p.1 ∙ ap (λ y. Err (told_by y)) p.2 ∙ sym (sheet_refused bs short _ _ _ (sym c.in_err-walk.ensures))
     ∙ walk-decides (g.A.Algebra.tables c.args.algebra.now) (attributes_of c.args.vocabulary.now) c.args.cells.now bs c.requires
 
 pub returns : goal.returns
 returns g c =
     let bs = c.args.sheet.now in
     let short : length bs ≤ 65535 = omega arith in
-    c.finish.ensures ∙ sym (sheet_ended bs short _ _ _ (sym c.in-ok-walk.ensures))
+    c.finish.ensures ∙ sym (sheet_ended bs short _ _ _ (sym c.in_ok-walk.ensures))
     ∙ walk-decides (g.A.Algebra.tables c.args.algebra.now) (attributes_of c.args.vocabulary.now) c.args.cells.now bs c.requires

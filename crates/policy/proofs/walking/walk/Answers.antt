@@ -11,39 +11,39 @@ use Rattle.policy.proofs.walking.walk.Goals as goal
 pub loop-at-init : goal.loop-at-init
 loop-at-init g c = (omega arith, tt, refl)
 
-pub returns-in-err-raw : goal.returns-in-err-raw
-returns-in-err-raw g c =
+pub returns-in_err-raw : goal.returns-in_err-raw
+returns-in_err-raw g c =
     let bs = c.args.sheet.now in
     let one = step (g.A.Algebra.tables c.args.algebra.now) (attributes_of c.args.vocabulary.now) c.args.cells.now in
-    let p = err_from_is_err_and c.from-residual.result c.from-residual.ensures.1 in
+    let p = err_from_is_err_and c.from_residual.result c.from_residual.ensures.1 in
     ap (answer_by walk_in) p.1 ∙ ap (λ y. Err (told_by y)) p.2
-    ∙ sym (c.loop-at.invariant.2 ∙ truncated_at one bs c.loop-at.at _ _ c.loop-at-test.true (sym c.in-err-raw.ensures.field-is-the-one-at-the-place))
+    ∙ sym (c.loop-at.invariant.2 ∙ truncated_at one bs c.loop-at.at _ _ c.loop-at-test.true (sym c.in_err-raw.ensures.field_is_the_one_at_the_place))
 
-pub returns-in-err-step : goal.returns-in-err-step
-returns-in-err-step g c =
+pub returns-in_err-step : goal.returns-in_err-step
+returns-in_err-step g c =
     let bs = c.args.sheet.now in
     let one = step (g.A.Algebra.tables c.args.algebra.now) (attributes_of c.args.vocabulary.now) c.args.cells.now in
-    let p = err_from_is_err_and c.from-residual-in-err-step.result c.from-residual-in-err-step.ensures.1 in
-    let raw = c.in-ok-raw.raw in
-    let told = c.in-ok-raw.ensures in
+    let p = err_from_is_err_and c.from_residual-in_err-step.result c.from_residual-in_err-step.ensures.1 in
+    let raw = c.in_ok-raw.raw in
+    let told = c.in_ok-raw.ensures in
     ap (answer_by walk_in) p.1 ∙ ap (λ y. Err (told_by y)) p.2
     ∙ sym
     (c.loop-at.invariant.2
-    ∙ refused_at one bs c.loop-at.at _ (bare raw) raw.next _ c.loop-at-test.true (sym told.field-is-the-one-at-the-place)
-    (ap (λ a. one a (state_in c.loop-at.walk.state) (bare raw)) (sym told.field-ends-within.place_is) ∙ c.in-err-step.ensures))
+    ∙ refused_at one bs c.loop-at.at _ (bare raw) raw.next _ c.loop-at-test.true (sym told.field_is_the_one_at_the_place)
+    (ap (λ a. one a (state_in c.loop-at.walk.state) (bare raw)) (sym told.field_ends_within.place_is) ∙ c.in_err-step.ensures))
 
 pub loop-at-preserved : goal.loop-at-preserved
 loop-at-preserved g c =
     let bs = c.args.sheet.now in
     let one = step (g.A.Algebra.tables c.args.algebra.now) (attributes_of c.args.vocabulary.now) c.args.cells.now in
-    let raw = c.in-ok-raw.raw in
-    let told = c.in-ok-raw.ensures in
-    let stepped = c.in-ok-step.ensures in (
-      told.field-ends-within.within,
+    let raw = c.in_ok-raw.raw in
+    let told = c.in_ok-raw.ensures in
+    let stepped = c.in_ok-step.ensures in (
+      told.field_ends_within.within,
       stepped.1,
       c.loop-at.invariant.2
-          ∙ goes_on_at one bs c.loop-at.at _ (bare raw) raw.next _ c.loop-at-test.true (sym told.field-is-the-one-at-the-place)
-          (ap (λ a. one a (state_in c.loop-at.walk.state) (bare raw)) (sym told.field-ends-within.place_is) ∙ stepped.0),
+          ∙ goes_on_at one bs c.loop-at.at _ (bare raw) raw.next _ c.loop-at-test.true (sym told.field_is_the_one_at_the_place)
+          (ap (λ a. one a (state_in c.loop-at.walk.state) (bare raw)) (sym told.field_ends_within.place_is) ∙ stepped.0),
     )
 
 pub returns : goal.returns

@@ -12,12 +12,12 @@ loop-i-init c =
     let none = c.none-cells.ensures in
     (ap length none, after_none (all_given c.args.end st) ∙ ap (λ cs. after cs (all_given c.args.end st)) (sym none))
 
-pub returns-in-default : goal.returns-in-default
-returns-in-default c =
+pub returns-in_default : goal.returns-in_default
+returns-in_default c =
     let g = c.args.given.now in
     let held = g.held in
     let inside : c.loop-i.i < length (given_in g) = simp length-take (omega arith) in
-    sym (c.loop-i.invariant.1 ∙ missing c.args.end (given_in g) (cells_of c.loop-i.cells) c.loop-i.i inside (get_or-take g.len g.cells c.loop-i.i None (omega arith) ∙ c.in-default.is))
+    sym (c.loop-i.invariant.1 ∙ missing c.args.end (given_in g) (cells_of c.loop-i.cells) c.loop-i.i inside (get_or-take g.len g.cells c.loop-i.i None (omega arith) ∙ c.in_default.is))
 
 pub loop-i-preserved : goal.loop-i-preserved
 loop-i-preserved c =

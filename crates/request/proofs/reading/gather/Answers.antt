@@ -12,41 +12,41 @@ use Rattle.request.proofs.reading.gather.Goals as goal
 pub loop-at-init : goal.loop-at-init
 loop-at-init c =
     let v = attributes_of c.args.vocabulary.now in
-    (omega arith, c.none-given.ensures.1, ap (λ st. reading (ask v) 0 st 0 c.args.request.now) (sym c.none-given.ensures.0))
+    (omega arith, c.none_given.ensures.1, ap (λ st. reading (ask v) 0 st 0 c.args.request.now) (sym c.none_given.ensures.0))
 
-pub returns-in-err-raw : goal.returns-in-err-raw
-returns-in-err-raw c =
+pub returns-in_err-raw : goal.returns-in_err-raw
+returns-in_err-raw c =
     let bs = c.args.request.now in
     let v = attributes_of c.args.vocabulary.now in
-    let p = err_from_is_err_and c.from-residual.result c.from-residual.ensures.1 in
+    let p = err_from_is_err_and c.from_residual.result c.from_residual.ensures.1 in
     ap (answer_by given_in) p.1 ∙ ap (λ y. Err (told_by y)) p.2
-    ∙ sym (c.loop-at.invariant.2 ∙ truncated_at (ask v) bs c.loop-at.at _ _ c.loop-at-test.true (sym c.in-err-raw.ensures.field-is-the-one-at-the-place))
+    ∙ sym (c.loop-at.invariant.2 ∙ truncated_at (ask v) bs c.loop-at.at _ _ c.loop-at-test.true (sym c.in_err-raw.ensures.field_is_the_one_at_the_place))
 
-pub returns-in-err-ask : goal.returns-in-err-ask
-returns-in-err-ask c =
+pub returns-in_err-ask : goal.returns-in_err-ask
+returns-in_err-ask c =
     let bs = c.args.request.now in
     let v = attributes_of c.args.vocabulary.now in
-    let p = err_from_is_err_and c.from-residual-in-err-ask.result c.from-residual-in-err-ask.ensures.1 in
-    let raw = c.in-ok-raw.raw in
-    let told = c.in-ok-raw.ensures in
+    let p = err_from_is_err_and c.from_residual-in_err-ask.result c.from_residual-in_err-ask.ensures.1 in
+    let raw = c.in_ok-raw.raw in
+    let told = c.in_ok-raw.ensures in
     ap (answer_by given_in) p.1 ∙ ap (λ y. Err (told_by y)) p.2
     ∙ sym
     (c.loop-at.invariant.2
-    ∙ refused_at (ask v) bs c.loop-at.at _ (bare raw) raw.next _ c.loop-at-test.true (sym told.field-is-the-one-at-the-place)
-    (ap (λ a. ask v a (given_in c.loop-at.given) (bare raw)) (sym told.field-ends-within.place_is) ∙ c.in-err-ask.ensures))
+    ∙ refused_at (ask v) bs c.loop-at.at _ (bare raw) raw.next _ c.loop-at-test.true (sym told.field_is_the_one_at_the_place)
+    (ap (λ a. ask v a (given_in c.loop-at.given) (bare raw)) (sym told.field_ends_within.place_is) ∙ c.in_err-ask.ensures))
 
 pub loop-at-preserved : goal.loop-at-preserved
 loop-at-preserved c =
     let bs = c.args.request.now in
     let v = attributes_of c.args.vocabulary.now in
-    let raw = c.in-ok-raw.raw in
-    let told = c.in-ok-raw.ensures in
-    let stepped = c.in-ok-ask.ensures in (
-      told.field-ends-within.within,
+    let raw = c.in_ok-raw.raw in
+    let told = c.in_ok-raw.ensures in
+    let stepped = c.in_ok-ask.ensures in (
+      told.field_ends_within.within,
       stepped.1 ∙ c.loop-at.invariant.1,
       c.loop-at.invariant.2
-          ∙ goes_on_at (ask v) bs c.loop-at.at _ (bare raw) raw.next _ c.loop-at-test.true (sym told.field-is-the-one-at-the-place)
-          (ap (λ a. ask v a (given_in c.loop-at.given) (bare raw)) (sym told.field-ends-within.place_is) ∙ stepped.0),
+          ∙ goes_on_at (ask v) bs c.loop-at.at _ (bare raw) raw.next _ c.loop-at-test.true (sym told.field_is_the_one_at_the_place)
+          (ap (λ a. ask v a (given_in c.loop-at.given) (bare raw)) (sym told.field_ends_within.place_is) ∙ stepped.0),
     )
 
 pub returns : goal.returns

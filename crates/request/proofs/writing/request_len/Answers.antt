@@ -5,8 +5,8 @@ use Rattle.vocabulary.proofs.Truncated.{proper_out}
 use Rattle.request.proofs.Piecewise.{request_short, next-length, rest-none}
 use Rattle.request.proofs.writing.request_len.Goals as goal
 
-pub field-len-len-requires : goal.field-len-len-requires
-field-len-len-requires c =
+pub field_len-len-requires : goal.field_len-len-requires
+field_len-len-requires c =
     let v : List Attribute = attributes_of c.args.vocabulary.now in
     let cells : List ℕ = c.args.cells.now in
     let proper = proper_out c.args.vocabulary.now.proper in
@@ -15,15 +15,15 @@ field-len-len-requires c =
     let inv = c.loop-i.invariant in
     omega arith
 
-pub overflow-add-len : goal.overflow-add-len
-overflow-add-len c =
+pub overflow_add-len : goal.overflow_add-len
+overflow_add-len c =
     let v : List Attribute = attributes_of c.args.vocabulary.now in
     let cells : List ℕ = c.args.cells.now in
     let proper = proper_out c.args.vocabulary.now.proper in
     let short = request_short v cells proper c.requires in
     let next = next-length v cells proper c.requires c.loop-i.i c.loop-i-test.true in
     let inv = c.loop-i.invariant in
-    let len = c.field-len-len.ensures in
+    let len = c.field_len-len.ensures in
     record { fits = omega arith }
 
 pub loop-i-preserved : goal.loop-i-preserved
@@ -33,7 +33,7 @@ loop-i-preserved c =
     let proper = proper_out c.args.vocabulary.now.proper in
     let next = next-length v cells proper c.requires c.loop-i.i c.loop-i-test.true in
     let inv = c.loop-i.invariant in
-    let len = c.field-len-len.ensures in
+    let len = c.field_len-len.ensures in
     omega arith
 
 pub returns : goal.returns

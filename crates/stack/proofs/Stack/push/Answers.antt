@@ -8,8 +8,8 @@ returns-then-self g c =
     let n = c.args.self.now.len in
     let room : n < length xs = omega arith in
     record {
-      same-slots = search rules;
-      pushed-or-full = record {
+      same_slots = search rules;
+      pushed_or_full = record {
         there_was_room = room;
         one_entry_more = search rules;
         one_slot_written = search rules;

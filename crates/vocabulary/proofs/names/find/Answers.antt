@@ -20,7 +20,7 @@ returns-then-eq g c =
     sym
     (c.loop-i.invariant
     ∙ found_here (called g bs) c.args.items.now c.args.name.now c.loop-i.i c.index-items-i.result (omega arith) c.index-items-i.is
-    (ap (name_at bs) (sym c.span.ensures) ∙ sym c.name-at.ensures ∙ d.0 c.if-eq.true))
+    (ap (name_at bs) (sym c.span.ensures) ∙ sym c.name_at.ensures ∙ d.0 c.if-eq.true))
 
 pub loop-i-preserved : goal.loop-i-preserved
 loop-i-preserved g c =
@@ -28,7 +28,7 @@ loop-i-preserved g c =
     let d = slice_eq-Decides Decides-eqb _ _ _ c.eq.ensures in
     c.loop-i.invariant
     ∙ found-later (called g bs) c.args.items.now c.args.name.now c.loop-i.i c.index-items-i.result (omega arith) c.index-items-i.is
-    (λ e. both_ways c.eq.result c.if-eq.false (d.1 (c.name-at.ensures ∙ ap (name_at bs) c.span.ensures ∙ e)))
+    (λ e. both_ways c.eq.result c.if-eq.false (d.1 (c.name_at.ensures ∙ ap (name_at bs) c.span.ensures ∙ e)))
 
 pub returns : goal.returns
 returns g c = sym (c.loop-i.invariant ∙ found_nowhere (called g c.args.sheet.now) c.args.items.now c.args.name.now c.loop-i.i c.loop-i-test.false)

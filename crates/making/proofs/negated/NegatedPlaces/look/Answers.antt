@@ -9,8 +9,8 @@ returns-in-Decision g c =
     let laws = g.met.A.Algebra.short_cuts c.args.self.now.algebra.now in
     record {
       same_places = same_places (negation_stands t) (negation_says t);
-      keeps-what-was-kept = λ first h. h;
-      seen-as-it-is =
+      keeps_what_was_kept = λ first h. h;
+      seen_as_it_is =
           λ k marks.
           negations_settle t k c.args.counts.now c.args.nodes.now marks c.args.level c.args.place laws c.in-Decision.d c.negation.result c.in-Decision.is c.negation.ensures;
     }
@@ -20,8 +20,8 @@ returns-in-Record g c =
     let t = g.A.Algebra.tables c.args.self.now.algebra.now in
     record {
       same_places = same_places (negation_stands t) (negation_says t);
-      keeps-what-was-kept = λ first h. h;
-      seen-as-it-is =
-          negations_branch t c.args.counts.now c.args.nodes.now c.args.level c.args.place c.in-Record.r c.level-of.result c.in-Record.is c.level-of.ensures
-          c.branches-within.result c.branches-within.ensures;
+      keeps_what_was_kept = λ first h. h;
+      seen_as_it_is =
+          negations_branch t c.args.counts.now c.args.nodes.now c.args.level c.args.place c.in-Record.r c.level_of.result c.in-Record.is c.level_of.ensures
+          c.branches_within.result c.branches_within.ensures;
     }

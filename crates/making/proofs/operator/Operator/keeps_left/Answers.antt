@@ -4,5 +4,5 @@ use Rattle.making.proofs.operator.Operator.keeps_left.Goals as goal
 pub returns-in-Meet : goal.returns-in-Meet
 returns-in-Meet c = left_lost c.args.self c.in-Meet.is
 
-pub returns-in-default : goal.returns-in-default
-returns-in-default c = left_kept c.args.self c.in-default.not-Meet
+pub returns-in_default : goal.returns-in_default
+returns-in_default c = left_kept c.args.self c.in_default.not-Meet

@@ -4,7 +4,7 @@ use Rattle.making.proofs.pairs.PairsPlaces.child.Goals as goal
 pub returns : goal.returns
 returns g c =
     record {
-      leads-to-the-cell =
+      leads_to_the_cell =
           λ k marks.
           pairs_lead c.args.self.now.operator (g.A.Algebra.tables c.args.self.now.algebra.now) k c.args.counts.now c.args.nodes.now marks c.args.level c.args.place c.args.cell
           (record { left = c.next.result; right = c.next-2.result }) c.next.ensures c.next-2.ensures;

@@ -4,23 +4,23 @@ use Rattle.diagram.specs.Diagram.{next}
 use Rattle.making.proofs.Masking.{child_of, projections_lead}
 use Rattle.making.proofs.projected.ProjectedPlaces.child.Goals as goal
 
-pub returns-then-has-bit : goal.returns-then-has-bit
-returns-then-has-bit c =
+pub returns-then-has_bit : goal.returns-then-has_bit
+returns-then-has_bit c =
     record {
-      leads-to-the-cell =
+      leads_to_the_cell =
           λ k marks.
           projections_lead c.args.self.now.masks.now c.args.self.now.decisions k c.args.counts.now c.args.nodes.now marks c.args.level c.args.place c.args.cell c.next.result
           (c.next.ensures
-          ∙ ap (λ b. cond b (next c.args.nodes.now c.args.level c.args.place c.args.cell) (Decision 0)) c.if-has-bit.ensures
+          ∙ ap (λ b. cond b (next c.args.nodes.now c.args.level c.args.place c.args.cell) (Decision 0)) c.if-has_bit.ensures
           ∙ ap (λ (m : ℕ). child_of c.args.nodes.now m c.args.level c.args.place c.args.cell) c.mask.ensures);
     }
 
-pub returns-else-has-bit : goal.returns-else-has-bit
-returns-else-has-bit c =
+pub returns-else-has_bit : goal.returns-else-has_bit
+returns-else-has_bit c =
     record {
-      leads-to-the-cell =
+      leads_to_the_cell =
           λ k marks.
           projections_lead c.args.self.now.masks.now c.args.self.now.decisions k c.args.counts.now c.args.nodes.now marks c.args.level c.args.place c.args.cell (Decision 0)
-          (ap (λ b. cond b (next c.args.nodes.now c.args.level c.args.place c.args.cell) (Decision 0)) c.if-has-bit.ensures
+          (ap (λ b. cond b (next c.args.nodes.now c.args.level c.args.place c.args.cell) (Decision 0)) c.if-has_bit.ensures
           ∙ ap (λ (m : ℕ). child_of c.args.nodes.now m c.args.level c.args.place c.args.cell) c.mask.ensures);
     }

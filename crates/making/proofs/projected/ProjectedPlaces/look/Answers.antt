@@ -11,8 +11,8 @@ returns-then-same c =
     let decisions = c.args.self.now.decisions in
     record {
       same_places = same_places (projection_stands masks) (projection_says masks decisions);
-      keeps-what-was-kept = λ first h. h;
-      seen-as-it-is =
+      keeps_what_was_kept = λ first h. h;
+      seen_as_it_is =
           λ k marks. projections_settle_nothing masks decisions k c.args.counts.now c.args.nodes.now marks c.args.level c.args.place (c.same.ensures.0 c.if-same.true);
     }
 
@@ -23,8 +23,8 @@ returns-in-Some c =
     let w = c.in-Some.ensures in
     record {
       same_places = same_places (projection_stands masks) (projection_says masks decisions);
-      keeps-what-was-kept = λ first h. h;
-      seen-as-it-is =
+      keeps_what_was_kept = λ first h. h;
+      seen_as_it_is =
           (w.0, w.1, λ k marks. projections_skip masks decisions k c.args.counts.now c.args.nodes.now marks c.args.level c.in-Some.at c.args.place w.1 w.2);
     }
 
@@ -35,8 +35,8 @@ returns-in-None c =
     let w = c.in-None.ensures in
     record {
       same_places = same_places (projection_stands masks) (projection_says masks decisions);
-      keeps-what-was-kept = λ first h. h;
-      seen-as-it-is =
+      keeps_what_was_kept = λ first h. h;
+      seen_as_it_is =
           λ k marks.
           projections_settle masks decisions k c.args.counts.now c.args.nodes.now marks c.args.level c.args.place c.kept.result w
           (c.kept.ensures ∙ ap (λ (d : ℕ). cond (has_bit decisions d) d 0) c.decision.ensures);

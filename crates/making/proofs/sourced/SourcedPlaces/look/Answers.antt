@@ -6,9 +6,9 @@ pub returns-else-level-counts : goal.returns-else-level-counts
 returns-else-level-counts g c =
     let m = g.S.Source.meaning c.args.self.now.source.now in
     record {
-      same_places = same_spans m (g.S.Source.meaning c.consult.new.self) c.consult.ensures.meaning-stays;
-      keeps-what-was-kept = λ first h. (h.0, c.consult.ensures.meaning-stays ∙ h.1);
-      seen-as-it-is =
+      same_places = same_spans m (g.S.Source.meaning c.consult.new.self) c.consult.ensures.meaning_stays;
+      keeps_what_was_kept = λ first h. (h.0, c.consult.ensures.meaning_stays ∙ h.1);
+      seen_as_it_is =
           λ k marks.
-          spans_settle m k c.args.counts.now c.args.nodes.now marks c.args.level c.args.place c.if-level-counts.false c.consult.result c.consult.ensures.answers-by-its-meaning;
+          spans_settle m k c.args.counts.now c.args.nodes.now marks c.args.level c.args.place c.if-level-counts.false c.consult.result c.consult.ensures.answers_by_its_meaning;
     }

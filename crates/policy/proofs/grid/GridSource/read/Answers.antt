@@ -5,27 +5,27 @@ use Rattle.policy.specs.Lists.{codes_of, codes_meaning}
 use Rattle.policy.proofs.Codes.{held_below, same_meaning, list_held}
 use Rattle.policy.proofs.grid.GridSource.read.Goals as goal
 
-pub invariant-of-result : goal.invariant-of-result
-invariant-of-result g c =
+pub invariant_of-result : goal.invariant_of-result
+invariant_of-result g c =
     let laws = g.met.A.Algebra.short_cuts c.args.algebra.now in
     let least = laws.size_at_least_2 in
     let size = c.size-size.ensures in
     let some : 0 < c.size-size.result = omega arith in
-    (some, (∣ held_below c.size-size.result c.held-codes.result c.args.list.now some c.held-codes.ensures.codes-then-zeros c.in-ok-check.ensures ∣₁, tt))
+    record { some_code = some; all_below = ∣ held_below c.size-size.result c.held-codes.result c.args.list.now some c.held-codes.ensures.codes_then_zeros c.in_ok-check.ensures ∣₁ }
 
 pub returns : goal.returns
 returns g c =
     let shape = counts_of c.args.shape in
     let list = c.args.list.now in
-    let sized = c.size.ensures.product-of-the-counts in
-    let small = c.size.ensures.at-most-4096 in
+    let sized = c.size.ensures.product_of_the_counts in
+    let small = c.size.ensures.at_most_4096 in
     let long : length list ≡ grid shape = omega arith in
-    let roomy = c.held-codes.ensures.room-for-the-largest-grid in
+    let roomy = c.held-codes.ensures.room_for_the_largest_grid in
     let room : grid shape ≤ length c.held-codes.result = omega arith in
-    let held = c.held-codes.ensures.codes-then-zeros in
+    let held = c.held-codes.ensures.codes_then_zeros in
     record {
-      codes-of-the-list =
-          list_held shape c.size-size.result c.held-codes.result list long room held c.in-ok-check.ensures
+      codes_of_the_list =
+          list_held shape c.size-size.result c.held-codes.result list long room held c.in_ok-check.ensures
           ∙ ap (λ k. codes_of shape k list) c.size-size.ensures;
-      means-the-list = same_meaning shape c.size-size.result c.held-codes.result list held ∙ ap (λ k. codes_meaning shape k list) c.size-size.ensures;
+      means_the_list = same_meaning shape c.size-size.result c.held-codes.result list held ∙ ap (λ k. codes_meaning shape k list) c.size-size.ensures;
     }

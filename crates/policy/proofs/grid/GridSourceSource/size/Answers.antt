@@ -6,4 +6,4 @@ use Rattle.policy.proofs.grid.GridSourceSource.size.Goals as goal
 pub returns : goal.returns
 returns c =
     let s = c.args.self.now in
-    record { size-of-the-algebra = refl; decisions-are-lawful = codes_lawful (counts_of s.shape) s.size s.codes s.some_code s.all_below }
+    record { size_of_the_algebra = refl; decisions_are_lawful = codes_lawful (counts_of s.shape) s.size s.codes s.some_code s.all_below }

@@ -11,8 +11,8 @@ pub returns : goal.returns
 returns c =
     let list = c.args.list.now in
     record {
-      room-for-the-largest-grid = c.loop-i.invariant.0;
-      codes-then-zeros =
+      room_for_the_largest_grid = c.loop-i.invariant.0;
+      codes_then_zeros =
           λ g.
           ⊎_elim (λ (h : g < length list). c.loop-i.invariant.1 g (omega arith)) (λ (h : length list ≤ g). c.loop-i.invariant.2 g (omega arith) ∙ sym (get_or_past list g 0 h))
           (cases_lt g (length list));

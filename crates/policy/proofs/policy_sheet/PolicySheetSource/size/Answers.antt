@@ -7,6 +7,6 @@ pub returns : goal.returns
 returns c =
     let s = c.args.self.now in
     record {
-      size-of-the-algebra = c.size.ensures;
-      decisions-are-lawful = sheet_lawful _ (truncated.short_cuts s.tables.short_cuts) (attributes_of s.vocabulary.now) s.sheet.now;
+      size_of_the_algebra = c.size.ensures;
+      decisions_are_lawful = sheet_lawful _ (truncated.short_cuts s.tables.short_cuts) (attributes_of s.vocabulary.now) s.sheet.now;
     }

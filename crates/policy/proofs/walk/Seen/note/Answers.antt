@@ -8,7 +8,7 @@ use Rattle.policy.proofs.walk.Seen.note.Goals as goal
 pub returns : goal.returns
 returns c =
     let s = c.args.self.now in (
-      take-set_in s.met s.len c.args.i (Some c.meets-now.result) c.requires
-          ∙ ap (λ b. set (seen_in s) c.args.i (Some b)) (c.meets-now.ensures ∙ ap (λ o. was_met o || c.args.met) (sym (get_or-take s.len s.met c.args.i None c.requires))),
+      take-set_in s.met s.len c.args.i (Some c.meets_now.result) c.requires
+          ∙ ap (λ b. set (seen_in s) c.args.i (Some b)) (c.meets_now.ensures ∙ ap (λ o. was_met o || c.args.met) (sym (get_or-take s.len s.met c.args.i None c.requires))),
       refl,
     )

@@ -11,7 +11,7 @@ pub note-requires : goal.note-requires
 note-requires g c =
     let v = attributes_of c.args.vocabulary.now in
     let below = attribute_below v _ _ c.in-Some.ensures in
-    let knows : c.in-Choice-Ruled.rule.seen.len ≡ length v = subst (Knows (length v)) c.in-Choice-Ruled.is-1 c.requires.0 in
+    let knows : c.in-Choice-Ruled.rule.seen.len ≡ length v = subst (Knows (length v)) c.in-Choice-Ruled.is-1 c.requires.knows in
     omega arith
 
 pub bounds-cells-i-in-Range-Ruled : goal.bounds-cells-i-in-Range-Ruled
@@ -21,5 +21,5 @@ pub note-requires-in-Range-Ruled : goal.note-requires-in-Range-Ruled
 note-requires-in-Range-Ruled g c =
     let v = attributes_of c.args.vocabulary.now in
     let below = attribute_below v _ _ c.in-Some-find.ensures in
-    let knows : c.in-Range-Ruled.rule.seen.len ≡ length v = subst (Knows (length v)) c.in-Range-Ruled.is-1 c.requires.0 in
+    let knows : c.in-Range-Ruled.rule.seen.len ≡ length v = subst (Knows (length v)) c.in-Range-Ruled.is-1 c.requires.knows in
     omega arith

@@ -4,6 +4,6 @@ use Rattle.vocabulary.proofs.attributes.Attributes.count.Goals as goal
 
 pub returns : goal.returns
 returns c = record {
-  number-of-attributes = λ bs. sym (how_many_attributes bs c.args.self.now);
-  at-most-eight = c.args.self.now.few;
+  number_of_attributes = λ bs. sym (how_many_attributes bs c.args.self.now);
+  at_most_eight = c.args.self.now.few;
 }

@@ -8,9 +8,9 @@ returns c =
     let inside : c.args.self.now.len < length c.args.self.now.items = search rules in
     (take_more_set _ _ _ inside, refl)
 
-pub invariant-of-self : goal.invariant-of-self
-invariant-of-self c =
+pub invariant_of-self : goal.invariant_of-self
+invariant_of-self c =
     let v = c.args.self.now in
     let inside : v.len < length v.items = search rules in
     let held : v.len + 1 ≤ length (set v.items v.len c.args.attribute) = simp length-set (omega arith) in
-    (omega arith, (held, (size_push _ _ _ _ _ inside v.sized c.cells.ensures.0, (subst (λ (k : ℕ). v.size * k ≤ 4096) (sym c.cells.ensures.0) c.requires.1, tt))))
+    record { few = omega arith; held = held; sized = size_push _ _ _ _ _ inside v.sized c.cells.ensures.0; small = subst (λ (k : ℕ). v.size * k ≤ 4096) (sym c.cells.ensures.0) c.requires.kind_bound }

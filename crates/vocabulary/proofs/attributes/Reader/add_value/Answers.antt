@@ -6,14 +6,14 @@ use Rattle.vocabulary.specs.Parts.{name_at, names_in, attributes_in}
 use Rattle.vocabulary.proofs.Entering.{known_by, how_many_names, size_of, value_known, value_new, grid_over, grid_fits, named-at}
 use Rattle.vocabulary.proofs.attributes.Reader.add_value.Goals as goal
 
-pub returns-then-is-some : goal.returns-then-is-some
-returns-then-is-some c =
+pub returns-then-is_some : goal.returns-then-is_some
+returns-then-is_some c =
     let bs = c.args.sheet.now in
     let names = names_in bs c.args.names in
     let long = how_many_names bs c.args.names in
     let few : length names < 16 = omega arith in
-    value_known c.args.raw.now.at _ _ names c.args.value.now few (known_by c.args.value.now names c.find.result true c.find.ensures c.if-is-some.ensures)
-    ∙ ap (λ r. Err (told_by r)) (sym c.refused-then-is-some.ensures)
+    value_known c.args.raw.now.at _ _ names c.args.value.now few (known_by c.args.value.now names c.find.result true c.find.ensures c.if-is_some.ensures)
+    ∙ ap (λ r. Err (told_by r)) (sym c.refused-then-is_some.ensures)
 
 pub returns-then-self-names-gt4096 : goal.returns-then-self-names-gt4096
 returns-then-self-names-gt4096 c =
@@ -22,7 +22,7 @@ returns-then-self-names-gt4096 c =
     let long = how_many_names bs c.args.names in
     let few : length names < 16 = omega arith in
     let one : suc (length names) ≡ c.args.names.len + 1 = omega arith in
-    value_new c.args.raw.now.at _ _ names c.args.value.now few (known_by c.args.value.now names c.find.result false c.find.ensures c.if-is-some.ensures)
+    value_new c.args.raw.now.at _ _ names c.args.value.now few (known_by c.args.value.now names c.find.result false c.find.ensures c.if-is_some.ensures)
     ∙ grid_over c.args.raw.now.at _ _ _ _ _ (size_of bs c.args.self.now.whole) one c.if-self-names-gt4096.true
     ∙ ap (λ r. Err (told_by r)) (sym c.refused-then-self-names-gt4096.ensures)
 
@@ -34,11 +34,11 @@ returns c =
     let few : length names < 16 = omega arith in
     let one : suc (length names) ≡ c.args.names.len + 1 = omega arith in
     let more : names ++ c.args.value.now ∷ [] ≡ names_in bs c.with.result =
-    ap (λ w. names ++ w ∷ []) (named-at bs c.args.raw.now c.args.value.now c.span-of.result c.requires.1 c.span-of.ensures.0 c.span-of.ensures.1)
-    ∙ sym (ap (map (name_at bs)) c.with.ensures.0 ∙ map-append (name_at bs) (take c.args.names.len c.args.names.spans) (c.span-of.result ∷ []))
+    ap (λ w. names ++ w ∷ []) (named-at bs c.args.raw.now c.args.value.now c.span_of.result c.requires.named_by c.span_of.ensures.0 c.span_of.ensures.1)
+    ∙ sym (ap (map (name_at bs)) c.with.ensures.0 ∙ map-append (name_at bs) (take c.args.names.len c.args.names.spans) (c.span_of.result ∷ []))
     in (
-      value_new c.args.raw.now.at _ _ names c.args.value.now few (known_by c.args.value.now names c.find.result false c.find.ensures c.if-is-some.ensures)
+      value_new c.args.raw.now.at _ _ names c.args.value.now few (known_by c.args.value.now names c.find.result false c.find.ensures c.if-is_some.ensures)
           ∙ grid_fits c.args.raw.now.at _ _ _ _ _ (size_of bs c.args.self.now.whole) one c.if-self-names-gt4096.false
           ∙ ap (λ ns. Ok (listing (attributes_in bs c.args.self.now.whole) (name_at bs c.args.name) ns)) more,
-      (c.requires.0, subst (λ (k : ℕ). c.args.self.now.whole.size * k ≤ 4096) (sym c.with.ensures.1) c.if-self-names-gt4096.false),
+      (c.requires.len_bound, subst (λ (k : ℕ). c.args.self.now.whole.size * k ≤ 4096) (sym c.with.ensures.1) c.if-self-names-gt4096.false),
     )

@@ -10,5 +10,5 @@ returns-in-Cuts-Opened c =
     let bs = c.args.sheet.now in
     let at = c.args.raw.now.at in
     let whole = attributes_in bs c.args.self.now.whole in
-    subst (λ s. Stepped bs (enter at (progress_in bs whole s) (said c.args.field)) c.add-cuts.result c.add-cuts.new.self) (sym c.in-Cuts-Opened.is-1)
-    (subst (λ f. Stepped bs (enter at (progress_in bs whole (Opened c.in-Cuts-Opened.name)) (said f)) c.add-cuts.result c.add-cuts.new.self) (sym c.in-Cuts-Opened.is-0) (c.add-cuts.ensures bs))
+    subst (λ s. Stepped bs (enter at (progress_in bs whole s) (said c.args.field)) c.add_cuts.result c.add_cuts.new.self) (sym c.in-Cuts-Opened.is-1)
+    (subst (λ f. Stepped bs (enter at (progress_in bs whole (Opened c.in-Cuts-Opened.name)) (said f)) c.add_cuts.result c.add_cuts.new.self) (sym c.in-Cuts-Opened.is-0) (c.add_cuts.ensures bs))

@@ -10,7 +10,7 @@ returns-then-c-self c =
     let held = v.held in
     let inside : c.args.c < length (take v.len v.spans) = simp length-take (omega arith) in
     let bs = c.args.sheet.now in
-    c.name-at.ensures ∙ ap (name_at bs) (sym (get_or-take v.len v.spans c.args.c _ (omega arith)))
+    c.name_at.ensures ∙ ap (name_at bs) (sym (get_or-take v.len v.spans c.args.c _ (omega arith)))
     ∙ sym (get_or-map (name_at bs) (take v.len v.spans) c.args.c _ [] inside)
 
 pub returns-else-c-self : goal.returns-else-c-self

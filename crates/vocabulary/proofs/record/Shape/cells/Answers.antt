@@ -5,19 +5,19 @@ use Rattle.vocabulary.specs.Grid.{grid, cells_at}
 use Rattle.vocabulary.proofs.Walked.{how_many_counts, count_positive, size_more, size_positive, cell_below, cells_more, cells_end}
 use Rattle.vocabulary.proofs.record.Shape.cells.Goals as goal
 
-pub nonzero-div-size : goal.nonzero-div-size
-nonzero-div-size c = count_positive _ _ _ _ c.loop-i-test.true c.loop-i.invariant.1 c.loop-i.invariant.2
+pub nonzero_div-size : goal.nonzero_div-size
+nonzero_div-size c = count_positive _ _ _ _ c.loop-i-test.true c.loop-i.invariant.1 c.loop-i.invariant.2
 
-pub nonzero-div-cells : goal.nonzero-div-cells
-nonzero-div-cells c = size_positive _ _ _ _ c.loop-i-test.true c.loop-i.invariant.1 c.loop-i.invariant.2
+pub nonzero_div-cells : goal.nonzero_div-cells
+nonzero_div-cells c = size_positive _ _ _ _ c.loop-i-test.true c.loop-i.invariant.1 c.loop-i.invariant.2
 
-pub overflow-cast-cells : goal.overflow-cast-cells
-overflow-cast-cells c =
+pub overflow_cast-cells : goal.overflow_cast-cells
+overflow_cast-cells c =
     let below = cell_below _ _ _ _ c.loop-i-test.true c.loop-i.invariant.1 c.loop-i.invariant.2 in
-    omega (arith, c.type-inv.counts c.loop-i.i)
+    omega (arith, c.type_inv.counts c.loop-i.i)
 
-pub nonzero-rem-rest : goal.nonzero-rem-rest
-nonzero-rem-rest c = size_positive _ _ _ _ c.loop-i-test.true c.loop-i.invariant.1 c.loop-i.invariant.2
+pub nonzero_rem-rest : goal.nonzero_rem-rest
+nonzero_rem-rest c = size_positive _ _ _ _ c.loop-i-test.true c.loop-i.invariant.1 c.loop-i.invariant.2
 
 pub loop-i-preserved : goal.loop-i-preserved
 loop-i-preserved c =

@@ -14,13 +14,13 @@ pub returns-then-cells-i : goal.returns-then-cells-i
 returns-then-cells-i c =
     answer _ _ _ _ c.counts-counts.ensures (c.loop-i.invariant.0 ∙ number_stops _ _ _ _ c.loop-i-test.true (omega arith) c.if-cells-i.true)
 
-pub overflow-mul-number : goal.overflow-mul-number
-overflow-mul-number c =
+pub overflow_mul-number : goal.overflow_mul-number
+overflow_mul-number c =
     let small = number_small _ _ c.loop-i-test.true _ _ c.if-cells-i.false c.loop-i.invariant.1 c.loop-i.invariant.2 in
     omega arith
 
-pub overflow-add-number : goal.overflow-add-number
-overflow-add-number c =
+pub overflow_add-number : goal.overflow_add-number
+overflow_add-number c =
     let small = number_small _ _ c.loop-i-test.true _ _ c.if-cells-i.false c.loop-i.invariant.1 c.loop-i.invariant.2 in
     omega arith
 

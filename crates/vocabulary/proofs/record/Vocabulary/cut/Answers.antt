@@ -2,10 +2,10 @@ use Rattle.std.proofs.Common.{◌-◌, ◌≤◌, length, take, sym, arith, leng
 use Rattle.vocabulary.proofs.Placing.{cut_below}
 use Rattle.vocabulary.proofs.record.Vocabulary.cut.Goals as goal
 
-pub overflow-cast-result : goal.overflow-cast-result
-overflow-cast-result c =
+pub overflow_cast-result : goal.overflow_cast-result
+overflow_cast-result c =
     let cuts = c.in-Ranged.cuts in
     let few = cuts.few in
     let short : length (take (cuts.len - 0) cuts.numbers) ≤ 17 = simp length-take (omega arith) in
-    let below = cut_below (take (cuts.len - 0) cuts.numbers) _ c.in-ok-place.place (sym c.in-ok-place.ensures) in
+    let below = cut_below (take (cuts.len - 0) cuts.numbers) _ c.in_ok-place-in-Ranged.place (sym c.in_ok-place-in-Ranged.ensures) in
     record { fits = omega arith }

@@ -26,8 +26,8 @@ loop-i-preserved c =
 all : {i len : ℕ} (counts : List ℕ) (items : List Attribute) → len ≤ i → i ≤ len → take i counts ≡ counts_in (take i items) → take len counts ≡ counts_in (take len items)
 all {i} {len} counts items h l e = let s : i ≡ len = omega arith in subst (λ (n : ℕ). take n counts ≡ counts_in (take n items)) s e
 
-pub invariant-of-result : goal.invariant-of-result
-invariant-of-result c =
+pub invariant_of-result : goal.invariant_of-result
+invariant_of-result c =
     let v = c.args.self.now.attributes in
     let few : v.len ≤ 8 = v.few in
     let filled = all c.loop-i.counts v.items c.loop-i-test.false c.loop-i.invariant.0 c.loop-i.invariant.1 in
@@ -35,7 +35,7 @@ invariant-of-result c =
     let kinds = (proper_out c.args.self.now.proper).kinds_are_proper in
     let full : 0 < v.size = subst (λ (n : ℕ). 0 < n) (size_of bs v) (grid_positive _ kinds) in
     let narrow = subst Narrow (shape_of_lem bs (take v.len v.items) ∙ sym filled) (shape_narrow _ kinds) in
-    (few, (omega arith, (v.sized ∙ ap grid (sym filled), (full, (v.small, (∣ narrow ∣₁, tt))))))
+    record { few = few; held = omega arith; sized = v.sized ∙ ap grid (sym filled); not_empty = full; small = v.small; narrow = ∣ narrow ∣₁ }
 
 pub returns : goal.returns
 returns c =

@@ -4,11 +4,11 @@ use Rattle.vocabulary.proofs.Entering.{how_many_names}
 use Rattle.vocabulary.proofs.Known.{place-below}
 use Rattle.vocabulary.proofs.record.Vocabulary.value_cell.Goals as goal
 
-pub overflow-cast-result : goal.overflow-cast-result
-overflow-cast-result c =
+pub overflow_cast-result : goal.overflow_cast-result
+overflow_cast-result c =
     let names = c.in-Valued.names in
     let bs = c.args.self.now.sheet.now in
     let few = names.few in
     let long = how_many_names bs names in
-    let below = place-below c.args.value.now (names_in bs names) c.in-ok-cell.cell (sym c.in-ok-cell.ensures) in
+    let below = place-below c.args.value.now (names_in bs names) c.in_ok-cell-in-Valued.cell (sym c.in_ok-cell-in-Valued.ensures) in
     record { fits = omega arith }
