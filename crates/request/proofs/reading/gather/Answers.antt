@@ -12,7 +12,7 @@ use Rattle.request.proofs.reading.gather.Goals as goal
 pub loop-at-init : goal.loop-at-init
 loop-at-init c =
     let v = attributes_of c.args.vocabulary.now in
-    (omega arith, c.none_given.ensures.1, ap (λ st. reading (ask v) 0 st 0 c.args.request.now) (sym c.none_given.ensures.0))
+    (omega arith, c.none-given.ensures.1, ap (λ st. reading (ask v) 0 st 0 c.args.request.now) (sym c.none-given.ensures.0))
 
 pub returns-in_err-raw : goal.returns-in_err-raw
 returns-in_err-raw c =
