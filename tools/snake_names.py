@@ -18,6 +18,8 @@ DECLARED = re.compile(r"^(\s*)((?:abbrev |unfoldable |pub |data |record |module 
 OF_STD = set("length append drop take map set get_or replicate sum filter count reverse min max".split())
 # Lemmas that port.py gave the name that a definition gets here.
 LEMMAS = {"name_in": "name_in_lem", "way_in": "way_in_lem"}
+# Parameters and names given by `as`.
+LOCAL = ["lenAfter", "slotsAfter", "itemsAfter", "placeNext", "finishOf", "enterOf", "askOf", "closedBy"]
 # Goals have names of their own.
 GENERATED = re.compile(r"^(returns|loop|overflow|bounds|slice_bounds|invariant|nonzero|prove)(-|$)")
 
@@ -71,7 +73,7 @@ def turned(kinds):
         to[name] = new
     kept = {n for n in kinds if n not in to and n not in LEMMAS}
     taken = kept | code | {new for name, new in to.items() if kinds[name] != {"lemma"}}
-    return {n: new + "_lem" if kinds[n] == {"lemma"} and new in taken else new for n, new in to.items()} | LEMMAS
+    return {n: new + "_lem" if kinds[n] == {"lemma"} and new in taken else new for n, new in to.items()} | LEMMAS | {n: snake(n) for n in LOCAL}
 
 
 def blanked(text):

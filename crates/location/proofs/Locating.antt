@@ -7,7 +7,7 @@ use Rattle.vocabulary.specs.Grid.{Cells, number, number_if}
 use Rattle.vocabulary.specs.Vocabulary.{Attribute}
 use Rattle.vocabulary.proofs.Gridded.{cells_are_tested_lem}
 use Rattle.request.specs.Request.{request_of}
-use Rattle.location.specs.Located.{Place, place_of, placed, placeNext}
+use Rattle.location.specs.Located.{Place, place_of, placed, place_next}
 
 module _ (at : ℕ) (v : List Attribute) (f : Framed) where
   -- another tag
@@ -32,9 +32,9 @@ number_there shape cs h = ap (λ b. when b (number shape cs)) ((cells_are_tested
 -- ---- one request after the other
 module _ (at : ℕ) (v : List Attribute) (ps : List Place) (f : Framed) where
   -- a request that has no place
-  pub place_refused : (t : Told) → Err t ≡ placed at v f → Err t ≡ placeNext at v ps f
+  pub place_refused : (t : Told) → Err t ≡ placed at v f → Err t ≡ place_next at v ps f
   place_refused t e = ap (λ a. and_then a (λ p. Ok (ps ++ p ∷ []))) e
 
   -- and one that has
-  pub place_found : (p : Place) → Ok p ≡ placed at v f → Ok (ps ++ p ∷ []) ≡ placeNext at v ps f
+  pub place_found : (p : Place) → Ok p ≡ placed at v f → Ok (ps ++ p ∷ []) ≡ place_next at v ps f
   place_found p e = ap (λ a. and_then a (λ p. Ok (ps ++ p ∷ []))) e

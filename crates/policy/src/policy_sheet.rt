@@ -25,7 +25,7 @@ impl<'a> PolicySheet<'a> {
         vocabulary: &'a Vocabulary<'a>,
         sheet: &'a [u8],
     ) -> PolicySheet<'a>
-        ensures { sheet_meaning (laid_out result.tables.size result.tables.sums result.tables.meets result.tables.negations) (attributes_of result.vocabulary.now) result.sheet.now ≡ sheet_meaning (tables algebra.now) (attributes_of vocabulary.now) sheet.now }
+        ensures { sheet_meaning (laid_out result.tables.size result.tables.sums result.tables.meets result.tables.negations) (attributes_of result.vocabulary.now) result.sheet.now ≡ sheet_meaning (A.tables algebra.now) (attributes_of vocabulary.now) sheet.now }
     {
         let tables = CopiedTables::of(algebra);
         PolicySheet {

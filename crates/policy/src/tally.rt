@@ -25,7 +25,7 @@ impl Tally {
 
     /// One more rule matches, with this decision.
     pub(crate) fn add<A: Algebra>(&mut self, algebra: &A, way: u8, decision: u8)
-        ensures { tally_of self.new ≡ with_one (tables algebra.now) way (tally_of self.old) decision }
+        ensures { tally_of self.new ≡ with_one (A.tables algebra.now) way (tally_of self.old) decision }
     {
         self.value = match (way, self.none) {
             (1, false) => self.value,
@@ -40,7 +40,7 @@ impl Tally {
 
     /// The decision, once all rules are read.
     pub(crate) fn decision<A: Algebra>(&self, algebra: &A, way: u8) -> u8
-        ensures { result ≡ settled (tables algebra.now) way (tally_of self.now) }
+        ensures { result ≡ settled (A.tables algebra.now) way (tally_of self.now) }
     {
         match way {
             1 | 2 | 3 => self.value,

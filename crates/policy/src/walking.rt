@@ -7,7 +7,7 @@ ghost use Rattle.fields.specs.Shown.{bare, said, PartsFit};
 ghost use Rattle.vocabulary.specs.Lookup.{attribute_at};
 ghost use Rattle.vocabulary.specs.Record.{attributes_of};
 ghost use Rattle.policy.specs.Sheets.{between, choice_cells, range_cells, sheet_meaning};
-ghost use Rattle.policy.specs.Walking.{was_met, all_met, may_follow, closed as closedBy, open_rule as opened, enter as enterOf, step as step_of, finish as finishOf, begun};
+ghost use Rattle.policy.specs.Walking.{was_met, all_met, may_follow, closed as closed_by, open_rule as opened, enter as enter_of, step as step_of, finish as finish_of, begun};
 ghost use Rattle.policy.specs.Tallies.{tally_of};
 ghost use Rattle.policy.specs.Walks.{seen_in, state_in, walk_in, decided_by, checked_by, nothing, Knows, Stepped, among, meets, missed, noting};
 
@@ -76,7 +76,7 @@ impl Seen {
 impl Judging {
     /// What the rules come to with the one that is being read.
     fn close<A: Algebra>(&self, algebra: &A) -> Tally
-        ensures { tally_of result ≡ closedBy (tables algebra.now) self.now.way (tally_of self.now.tally) self.now.decision (seen_in self.now.seen) }
+        ensures { tally_of result ≡ closed_by (A.tables algebra.now) self.now.way (tally_of self.now.tally) self.now.decision (seen_in self.now.seen) }
     {
         let mut tally = self.tally;
         if self.seen.all_met() {
@@ -147,7 +147,7 @@ impl Walk {
         tally: Tally,
         decision: u8,
     ) -> Result<(), Refusal>
-        ensures { Stepped (length (attributes_of vocabulary.now)) (opened (length (attributes_of vocabulary.now)) (tables algebra.now).size raw.now.at way (tally_of tally) decision) result self.new }
+        ensures { Stepped (length (attributes_of vocabulary.now)) (opened (length (attributes_of vocabulary.now)) (A.tables algebra.now).size raw.now.at way (tally_of tally) decision) result self.new }
     {
         if decision == 0 || decision >= algebra.size() {
             return Err(raw.refused(Cause::BadContent));
@@ -194,7 +194,7 @@ impl Walk {
         requires knows { Knows (length (attributes_of vocabulary.now)) self.old.state }
         requires cells_len { length cells.now ≡ length (attributes_of vocabulary.now) }
         requires parts_fit { PartsFit raw.now.content.now field }
-        ensures { Stepped (length (attributes_of vocabulary.now)) (enterOf (tables algebra.now) (attributes_of vocabulary.now) cells.now raw.now.at (state_in self.old.state) (said field.entry)) result self.new }
+        ensures { Stepped (length (attributes_of vocabulary.now)) (enter_of (A.tables algebra.now) (attributes_of vocabulary.now) cells.now raw.now.at (state_in self.old.state) (said field.entry)) result self.new }
     {
         match (field, self.state) {
             (Field::Way(way), State::Begun) => {
@@ -248,7 +248,7 @@ impl Walk {
     ) -> Result<(), Refusal>
         requires knows { Knows (length (attributes_of vocabulary.now)) self.old.state }
         requires cells_len { length cells.now ≡ length (attributes_of vocabulary.now) }
-        ensures { Stepped (length (attributes_of vocabulary.now)) (step_of (tables algebra.now) (attributes_of vocabulary.now) cells.now raw.now.at (state_in self.old.state) (bare raw.now)) result self.new }
+        ensures { Stepped (length (attributes_of vocabulary.now)) (step_of (A.tables algebra.now) (attributes_of vocabulary.now) cells.now raw.now.at (state_in self.old.state) (bare raw.now)) result self.new }
     {
         if self.state.may_precede(raw.tag) {
             self.enter(algebra, vocabulary, cells, raw, raw.field()?)
@@ -259,7 +259,7 @@ impl Walk {
 
     /// The decision once the sheet has ended.
     fn finish<A: Algebra>(&self, algebra: &A, end: usize) -> Result<u8, Refusal>
-        ensures { answer_by itself result ≡ finishOf (tables algebra.now) end (state_in self.now.state) }
+        ensures { answer_by itself result ≡ finish_of (A.tables algebra.now) end (state_in self.now.state) }
     {
         match self.state {
             State::Begun => Err(Refusal {
@@ -280,7 +280,7 @@ fn walk<A: Algebra>(
     sheet: &[u8],
 ) -> Result<Walk, Refusal>
     requires { length cells.now ≡ length (attributes_of vocabulary.now) }
-    ensures { answer_by walk_in result ≡ reading (step_of (tables algebra.now) (attributes_of vocabulary.now) cells.now) 0 begun 0 sheet.now }
+    ensures { answer_by walk_in result ≡ reading (step_of (A.tables algebra.now) (attributes_of vocabulary.now) cells.now) 0 begun 0 sheet.now }
 {
     let mut walk = Walk {
         state: State::Begun,
@@ -302,7 +302,7 @@ pub(crate) fn decide<A: Algebra>(
     sheet: &[u8],
 ) -> Result<u8, Refusal>
     requires { length cells.now ≡ length (attributes_of vocabulary.now) }
-    ensures { answer_by itself result ≡ decided_by (tables algebra.now) (attributes_of vocabulary.now) cells.now sheet.now }
+    ensures { answer_by itself result ≡ decided_by (A.tables algebra.now) (attributes_of vocabulary.now) cells.now sheet.now }
 {
     if sheet.len() > LONGEST_SHEET {
         return Err(Refusal {
@@ -321,7 +321,7 @@ pub fn decide_number<A: Algebra>(
     sheet: &[u8],
     number: usize,
 ) -> u8
-    ensures { result ≡ (sheet_meaning (tables algebra.now) (attributes_of vocabulary.now) sheet.now).decision number }
+    ensures { result ≡ (sheet_meaning (A.tables algebra.now) (attributes_of vocabulary.now) sheet.now).decision number }
 {
     let shape = vocabulary.shape();
     let Some(cells) = shape.cells(number) else {
@@ -335,7 +335,7 @@ pub fn decide_number<A: Algebra>(
 
 /// Whether a sheet describes a policy, or why it is refused.
 pub fn check<A: Algebra>(algebra: &A, vocabulary: &Vocabulary, sheet: &[u8]) -> Result<(), Refusal>
-    ensures { answer_by nothing result ≡ checked_by (tables algebra.now).size (attributes_of vocabulary.now) sheet.now }
+    ensures { answer_by nothing result ≡ checked_by (A.tables algebra.now).size (attributes_of vocabulary.now) sheet.now }
 {
     let anywhere = [0u8; 8];
     match decide(algebra, vocabulary, &anywhere[0..vocabulary.len()], sheet) {

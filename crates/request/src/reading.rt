@@ -6,7 +6,7 @@ ghost use Rattle.fields.specs.Shown.{bare, said, PartsFit};
 ghost use Rattle.vocabulary.specs.Vocabulary.{names_of};
 ghost use Rattle.vocabulary.specs.Lookup.{attribute_at, value_cell, number_cell};
 ghost use Rattle.vocabulary.specs.Record.{attributes_of, cells_of};
-ghost use Rattle.request.specs.Request.{give_once, given_cell, take_in, ask as askOf, none_given, all_given, request_of};
+ghost use Rattle.request.specs.Request.{give_once, given_cell, take_in, ask as ask_of, none_given, all_given, request_of};
 ghost use Rattle.request.specs.Reading.{given_in, Stepped};
 
 use crate::given::Given;
@@ -85,7 +85,7 @@ impl Given {
     /// One field.
     fn ask(&mut self, vocabulary: &Vocabulary, raw: &RawField) -> Result<(), Refusal>
         requires { self.old.len ≡ length (attributes_of vocabulary.now) }
-        ensures { Stepped (askOf (attributes_of vocabulary.now) raw.now.at (given_in self.old) (bare raw.now)) self.old result self.new }
+        ensures { Stepped (ask_of (attributes_of vocabulary.now) raw.now.at (given_in self.old) (bare raw.now)) self.old result self.new }
     {
         match raw.tag {
             0x31 | 0x32 => self.take_in(vocabulary, raw, raw.field()?),
@@ -96,7 +96,7 @@ impl Given {
 
 /// What the fields of a request give.
 fn gather(vocabulary: &Vocabulary, request: &[u8]) -> Result<Given, Refusal>
-    ensures { answer_by given_in result ≡ reading (askOf (attributes_of vocabulary.now)) 0 (none_given (attributes_of vocabulary.now)) 0 request.now }
+    ensures { answer_by given_in result ≡ reading (ask_of (attributes_of vocabulary.now)) 0 (none_given (attributes_of vocabulary.now)) 0 request.now }
 {
     let mut given = Given::none(vocabulary);
     let mut at = 0;

@@ -5,8 +5,8 @@ use Rattle.std.proofs.lemmas.List.{take_more, take_more_set, take_all}
 use Rattle.stack.specs.Entries.{Pushed, Newest}
 
 -- One more item is pushed: the entries go on as the items do.
-pub pushed_next : {T : Type 0} (items slots slotsAfter : List T) (i len lenAfter : ℕ) (x : T) → len ≡ i → take len slots ≡ take i items → i < length items → x ≡ get_or items i x → Pushed slots len x slotsAfter lenAfter → (lenAfter ≡ i + 1) × (take lenAfter slotsAfter ≡ take (i + 1) items) × (length slotsAfter ≡ length slots)
-pushed_next items slots slotsAfter i len lenAfter x at same lt is pushed =
+pub pushed_next : {T : Type 0} (items slots slots_after : List T) (i len len_after : ℕ) (x : T) → len ≡ i → take len slots ≡ take i items → i < length items → x ≡ get_or items i x → Pushed slots len x slots_after len_after → (len_after ≡ i + 1) × (take len_after slots_after ≡ take (i + 1) items) × (length slots_after ≡ length slots)
+pushed_next items slots slots_after i len len_after x at same lt is pushed =
     let more = take_more items i x lt in
     let newest = pushed.x_is_newest in (
       omega arith,
@@ -15,9 +15,9 @@ pushed_next items slots slotsAfter i len lenAfter x at same lt is pushed =
     )
 
 -- One more entry is popped: what is written and the entries that are left, from the newest on, stay the same list.
-pub popped_next : {T : Type 0} (items slots rest : List T) (n len lenAfter : ℕ) (x : T) → n < length items → Newest slots len x lenAfter → take n items ++ reverse (take len slots) ≡ rest → take (n + 1) (set items n x) ++ reverse (take lenAfter slots) ≡ rest
-popped_next items slots rest n len lenAfter x lt popped same =
-    ap (λ w. w ++ reverse (take lenAfter slots)) (take_more_set items n x lt) ∙ append_assoc (take n items) (x ∷ []) (reverse (take lenAfter slots)) ∙ ap (λ w. take n items ++ w) (sym (reverse-append (take lenAfter slots) (x ∷ []))) ∙ ap (λ w. take n items ++ reverse w) (sym popped.x_is_newest) ∙ same
+pub popped_next : {T : Type 0} (items slots rest : List T) (n len len_after : ℕ) (x : T) → n < length items → Newest slots len x len_after → take n items ++ reverse (take len slots) ≡ rest → take (n + 1) (set items n x) ++ reverse (take len_after slots) ≡ rest
+popped_next items slots rest n len len_after x lt popped same =
+    ap (λ w. w ++ reverse (take len_after slots)) (take_more_set items n x lt) ∙ append_assoc (take n items) (x ∷ []) (reverse (take len_after slots)) ∙ ap (λ w. take n items ++ w) (sym (reverse-append (take len_after slots) (x ∷ []))) ∙ ap (λ w. take n items ++ reverse w) (sym popped.x_is_newest) ∙ same
 
 -- No entry is left: all is written.
 pub all_written : {T : Type 0} (items after slots pushed : List T) (i n len : ℕ) → length after ≡ length items → i ≡ length items → n + len ≡ length items → len ≡ 0 → pushed ≡ take i items → take n after ++ reverse (take len slots) ≡ reverse pushed → after ≡ reverse items

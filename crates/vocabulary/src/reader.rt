@@ -2,7 +2,7 @@
 ghost use Rattle.std.specs.Prelude.{◌≡◌, ℕ, ◌+◌, ◌-◌, ◌*◌, ◌/◌, ◌<◌, ◌≤◌, List, [], ◌∷◌, ◌++◌, map, length, take};
 ghost use Rattle.fields.specs.Words.{numbers_of};
 ghost use Rattle.fields.specs.Shown.{bare, said, EndsWithin, PartsFit};
-ghost use Rattle.vocabulary.specs.Vocabulary.{start, whole_so_far, open_attribute, add_value, in_grid, enter as enterOf, step as step_of, bounded};
+ghost use Rattle.vocabulary.specs.Vocabulary.{start, whole_so_far, open_attribute, add_value, in_grid, enter as enter_of, step as step_of, bounded};
 ghost use Rattle.vocabulary.specs.Counted.{cells_in};
 ghost use Rattle.vocabulary.specs.Parts.{name_at, names_in, cuts_in, attributes_in, progress, Room, Stepped, NamedBy};
 
@@ -181,7 +181,7 @@ impl Reader {
         requires ends_within { EndsWithin sheet.now raw.now.at raw.now }
         requires sheet_len_bound { length sheet.now ≤ 65535 }
         requires parts_fit { PartsFit raw.now.content.now field }
-        ensures { Stepped sheet.now (enterOf raw.now.at (progress sheet.now self.old) (said field.entry)) result self.new }
+        ensures { Stepped sheet.now (enter_of raw.now.at (progress sheet.now self.old) (said field.entry)) result self.new }
     {
         match (field, self.state) {
             (Field::Attribute(name), _) => self.open(sheet, raw, name),

@@ -13,8 +13,8 @@ use vocabulary::record::Shape;
 impl GridSource {
     /// The source of a grid list: a code of the algebra for each grid number of the shape, in order.
     pub fn read<A: Algebra>(shape: Shape, algebra: &A, list: &[u8]) -> Result<GridSource, Refusal>
-        ensures codes_of_the_list { answer_by codes_held result ≡ codes_of (counts_of shape) (tables algebra.now).size list.now }
-        ensures means_the_list { IfOk result (λ s. meaning_of s ≡ codes_meaning (counts_of shape) (tables algebra.now).size list.now) }
+        ensures codes_of_the_list { answer_by codes_held result ≡ codes_of (counts_of shape) (A.tables algebra.now).size list.now }
+        ensures means_the_list { IfOk result (λ s. meaning_of s ≡ codes_meaning (counts_of shape) (A.tables algebra.now).size list.now) }
     {
         if list.len() != shape.size() {
             return Err(Refusal {

@@ -1,7 +1,7 @@
 //! Reading a whole vocabulary.
 ghost use Rattle.std.specs.Prelude.{◌≡◌, [], length};
 ghost use Rattle.refusal.specs.Answers.{answer_by};
-ghost use Rattle.vocabulary.specs.Vocabulary.{vocabulary_of, finish as finishOf};
+ghost use Rattle.vocabulary.specs.Vocabulary.{vocabulary_of, finish as finish_of};
 ghost use Rattle.vocabulary.specs.Parts.{attributes_in, progress, Room};
 ghost use Rattle.vocabulary.specs.Record.{attributes_of, ReadInPlace};
 
@@ -17,7 +17,7 @@ pub const LONGEST_SHEET: usize = 65535;
 /// The attributes once the sheet has ended, after its last attribute has cells.
 fn finish(mut reader: Reader, sheet: &[u8]) -> Result<Attributes, Refusal>
     requires { Room reader }
-    ensures { answer_by (attributes_in sheet.now) result ≡ finishOf (length sheet.now) (progress sheet.now reader) }
+    ensures { answer_by (attributes_in sheet.now) result ≡ finish_of (length sheet.now) (progress sheet.now reader) }
 {
     match reader.state {
         State::Start | State::Opened(_) => Err(Refusal {
