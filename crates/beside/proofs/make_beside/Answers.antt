@@ -18,7 +18,13 @@ build-requires g c =
     c.mark_reached.ensures.as_many_bytes ∙ ap length clear ∙ length-replicate (length bytes) 0 ∙ c.requires.bytes_len
     in
     let few : length c.counts-2.result.now ≤ 8 = omega (arith, ap length counts, how_many_counts shape, shape.few) in
-    (many, c.requires.nodes_len_bound, subst Narrow (sym counts) (counts_are_narrow shape), few, omega (arith, few, c.requires.in_bounds))
+    record {
+      bytes_len = many;
+      nodes_len_bound = c.requires.nodes_len_bound;
+      narrow = subst Narrow (sym counts) (counts_are_narrow shape);
+      counts_len_bound = few;
+      counts_in_bounds = omega (arith, few, c.requires.in_bounds);
+    }
 
 pub returns : goal.returns
 returns g c =

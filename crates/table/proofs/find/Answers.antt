@@ -2,7 +2,7 @@ use Rattle.std.proofs.Common.{◌≡◌, false, length, get_or, sym, refl, ◌�
 use Rattle.std.proofs.lemmas.List.{get_or_past}
 use Rattle.std.proofs.lemmas.Bool.{cases_lt, both_ways, eqb-true, eq-eqb}
 use Rattle.table.proofs.find.Goals as goal
-use Rattle.table.proofs.find.Goals.{else-is_marked-via-then-is_marked+else-alike, else-is-marked-via-else-is-marked}
+use Rattle.table.proofs.find.Goals.{else-is_marked-via-then-is_marked+else-alike, else-is_marked-via-else-is_marked}
 
 pub returns : goal.returns
 returns c s m a =
@@ -19,5 +19,5 @@ loop-i-preserved c =
     (λ m a.
     elim c.else-is_marked.branch [
       | else-is_marked-via-then-is_marked+else-alike w ↦ both_ways false refl (w.if-alike.ensures.1 a)
-      | else-is-marked-via-else-is-marked w ↦ both_ways false refl (w.if-is_marked.ensures ∙ eq-eqb (get_or c.args.marking.now.bytes.now c.loop-i.i 0) 1 m)
+      | else-is_marked-via-else-is_marked w ↦ both_ways false refl (w.if-is_marked.ensures ∙ eq-eqb (get_or c.args.marking.now.bytes.now c.loop-i.i 0) 1 m)
     ])

@@ -1,6 +1,6 @@
 use Rattle.std.proofs.Common.{◌-◌, ◌≤◌, [], map, length, vec_items}
 use Rattle.vocabulary.specs.Record.{attributes_of}
-use Rattle.location.specs.Located.{place_next}
+use Rattle.location.proofs.Locating.{place_next}
 use Rattle.location.specs.Shown.{place_shown}
 use Rattle.location.proofs.Serving.{Reached}
 use Rattle.location.proofs.finding.locate.Given as goal
