@@ -56,8 +56,8 @@ fn lists(rt: HostRuntime) -> Result<(), Fail> {
         for digit in digits.bytes() {
             list.push(digit.wrapping_sub(b'0'))?;
         }
-        check_list(&rt, rt.alloc(), shape, &PermitDeny, &list, permit_deny).note(digits)?;
-        check_list(&rt, rt.alloc(), shape, &Stages, &list, stages).note(digits)?;
+        check_list(&rt, rt.alloc(), shape, &PermitDeny, &list, permit_deny)?;
+        check_list(&rt, rt.alloc(), shape, &Stages, &list, stages)?;
     }
     Ok(())
 }

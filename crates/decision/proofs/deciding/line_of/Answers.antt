@@ -21,7 +21,7 @@ loop-sheet-preserved c =
     let within : i < length ss = omega arith in
     ap (map code_of) c.in_ok-push.ensures.items
     ∙ map-append code_of (vec_items c.loop-sheet.decisions) _
-    ∙ ap₂ (λ ds d. ds ++ d ∷ []) c.loop-sheet.invariant (c.decision-at.ensures ∙ ap decide (sym (get_or-map list_now sheets i _)))
+    ∙ ap₂ (λ ds d. ds ++ d ∷ []) c.loop-sheet.invariant (c.decision_at.ensures ∙ ap decide (sym (get_or-map list_now sheets i _)))
     ∙ sym (ap (map decide) (take_more ss i [] within) ∙ map-append decide (take i ss) (get_or ss i [] ∷ []))
 
 pub returns : goal.returns

@@ -4,7 +4,7 @@ use Rattle.vocabulary.specs.Record.{attributes_of}
 use Rattle.decision.specs.Differing.{decision_at, how_many_differ}
 use Rattle.decision.proofs.Counted.{at_most_all, counted_more}
 use Rattle.decision.proofs.differing.how_many_differ.Goals as goal
-use Rattle.decision.proofs.differing.how_many_differ.Goals.{then-differ-at, else-differ-at}
+use Rattle.decision.proofs.differing.how_many_differ.Goals.{then-differ_at, else-differ_at}
 
 pub overflow_add-count : goal.overflow_add-count
 overflow_add-count c =
@@ -20,8 +20,8 @@ loop-number-preserved c =
     let more = counted_more (decision_at v c.args.first.now) (decision_at v c.args.second.now) c.loop-number.number in
     let before = c.loop-number.invariant in
     elim c.if-differ_at.branch [
-      | then-differ-at w ↦ omega (arith, w.count-is, more true w.if-differ_at.ensures)
-      | else-differ-at w ↦ omega (arith, w.count-is, more false w.if-differ_at.ensures)
+      | then-differ_at w ↦ omega (arith, w.count-is, more true w.if-differ_at.ensures)
+      | else-differ_at w ↦ omega (arith, w.count-is, more false w.if-differ_at.ensures)
     ]
 
 pub returns : goal.returns
