@@ -1,4 +1,6 @@
 //! Algebras of decisions: a decision is a code below the algebra's size, and 0 means not applicable.
+#![tactic(auto)]
+
 ghost use Rattle.std.specs.Prelude.{◌≡◌};
 ghost use Rattle.algebra.specs.Derived.{minus, precedence, DerivedLawsHold};
 ghost use Rattle.algebra.specs.Laws.{ShortCutLaws, RegroupingLaws};

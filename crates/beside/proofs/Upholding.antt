@@ -1,11 +1,10 @@
 -- What is built in a memory where just the standing policies are marked stands beside them.
-use Rattle.std.proofs.Common.{◌≡◌, ℕ, ◌<◌, ◌≤◌, List, [], ◌∷◌, map, length, get_or, Some, None, Option, sym, refl, ap, ◌∙◌, subst, ap₂, arith}
+use Rattle.std.proofs.Common.{◌≡◌, ℕ, List, [], ◌∷◌, Some, None, Option, refl, ap₂}
 use Rattle.std.specs.List.{AllByRecursion as All}
 use Rattle.vocabulary.specs.Grid.{Filled}
 use Rattle.marking.specs.Marks.{Marked}
 use Rattle.diagram.specs.declared.Node.{Node}
 use Rattle.diagram.specs.declared.Link.{Link}
-use Rattle.diagram.specs.Diagram.{page}
 use Rattle.diagram.specs.Sound.{Fit, Sound, Met}
 use Rattle.diagram.specs.Marks.{Closed}
 use Rattle.diagram.proofs.Marking.{marked_met}
@@ -16,7 +15,7 @@ use Rattle.reaching.specs.Roots.{SoundRoots}
 use Rattle.table.specs.Built.{Built}
 use Rattle.table.specs.Exact.{OnlyRootsStand}
 use Rattle.table.proofs.Exactness.{capacity_decides_lem}
-use Rattle.beside.specs.Makes.{pages_of, StillStand, StandsBeside, RootOrLack, Makes, WhatIsBuiltIsMade}
+use Rattle.beside.specs.Makes.{pages_of, StillStand, Makes, WhatIsBuiltIsMade}
 
 module _ (k : ℕ) (shape : List ℕ) (nodes : List Node) (roots : List Link) (marks : List ℕ) (filled : Filled shape) (sound : SoundRoots k shape nodes roots) (closed : Closed shape nodes roots marks) where
   -- the marked records are sound, for with a record those that it leads to are marked

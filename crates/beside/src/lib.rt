@@ -1,4 +1,6 @@
 //! Making a policy beside those that stand: mark what they reach, walk, and clear the marks.
+#![tactic(auto)]
+
 ghost use Rattle.std.specs.Prelude.{◌≡◌, ℕ, ◌≤◌, List, length, replicate};
 ghost use Rattle.vocabulary.specs.Record.{counts_of};
 ghost use Rattle.diagram.specs.Marks.{Closed};

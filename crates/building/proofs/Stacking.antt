@@ -1,5 +1,5 @@
 -- The frames on a stack, the newest first.
-use Rattle.std.proofs.Common.{◌≡◌, ℕ, ◌+◌, ◌≤◌, List, [], ◌∷◌, ◌++◌, reverse, length, take, refl, ap, ◌∙◌, add-one, length-append, length-take-le}
+use Rattle.std.proofs.Common.{◌≡◌, ℕ, ◌+◌, ◌≤◌, List, [], ◌∷◌, reverse, length, take, refl, ap, ◌∙◌, add-one, length-append, length-take-le}
 use mathlib.Core.List.{reverse-append}
 use Rattle.stack.specs.Entries.{with_newest}
 use Rattle.building.specs.Work.{frames}

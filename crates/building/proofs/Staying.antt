@@ -7,7 +7,7 @@ use Rattle.diagram.specs.declared.Link.{Link}
 use Rattle.places.specs.Places.{Standing, Paging, in_cell, SamePlaces, SaysTheSameUntil}
 use Rattle.table.specs.Reduced.{BranchesBuilt}
 use Rattle.building.specs.declared.Frame.{Frame}
-use Rattle.building.specs.Walk.{Aim, Walkable, Waits, Awaited, Opening, Handing}
+use Rattle.building.specs.Walk.{Aim, Walkable, Awaited, Opening, Handing}
 
 module _ {Place : Type 0} (stands : Standing Place) (says : Paging Place) (stands' : Standing Place) (says' : Paging Place) (same : SamePlaces stands says stands' says') where
   -- what a walk relies on, by going back to the places before

@@ -1,5 +1,5 @@
 -- The building walk: what its frames wait for, and what is known at each turn.
-use Rattle.std.specs.Prelude.{◌≡◌, ℕ, suc, ◌<◌, ◌≤◌, List, [], ◌∷◌, length, replicate, Some, Option, slice_index}
+use Rattle.std.specs.Prelude.{◌≡◌, ℕ, suc, ◌<◌, ◌≤◌, List, [], ◌∷◌, length, replicate, Some, slice_index}
 use Rattle.vocabulary.specs.Grid.{Filled, Narrow}
 use Rattle.marking.specs.Marks.{Marked}
 use Rattle.diagram.specs.declared.Node.{Node}

@@ -1,4 +1,6 @@
 //! The building walk: a loop that builds the page of a place in node records, with frames on a stack.
+#![tactic(auto)]
+
 ghost use Rattle.std.specs.Prelude.{◌≡◌, ℕ, ◌<◌, ◌≤◌, List, length, slice_index};
 ghost use Rattle.vocabulary.specs.Grid.{Filled, Narrow};
 ghost use Rattle.marking.specs.Marks.{Marked};

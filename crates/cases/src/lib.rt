@@ -1,4 +1,6 @@
 //! Tests of the library on sound and on damaged input.
+#![tactic(auto)]
+
 #[cfg(test)]
 mod algebras;
 #[cfg(test)]

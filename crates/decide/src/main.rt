@@ -1,4 +1,6 @@
 //! Reads a vocabulary, policy sheets and requests from standard input, and prints what the sheets decide on each request and where they differ.
+#![tactic(auto)]
+
 use anyhow::anyhow;
 use decision::Report;
 use decision::deciding::decide;

@@ -1,4 +1,6 @@
 //! What the program `decide` answers: the decisions of policy sheets on requests, and where the sheets differ.
+#![tactic(auto)]
+
 mod arrived;
 pub mod consulting;
 pub mod deciding;

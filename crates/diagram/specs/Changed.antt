@@ -1,5 +1,5 @@
 -- What stays of a sound set of records when node memory or the set changes.
-use Rattle.std.specs.Prelude.{◌≡◌, ℕ, ◌<◌, ◌≤◌, Bool, true, false, ◌⊎◌, List, length, drop, set, slice_set}
+use Rattle.std.specs.Prelude.{◌≡◌, ℕ, ◌<◌, ◌≤◌, Bool, true, false, ◌⊎◌, List, length, drop, slice_set}
 use Rattle.std.specs.List.{AllByRecursion as All}
 use Rattle.diagram.specs.declared.Node.{Node}
 use Rattle.diagram.specs.declared.Link.{Link}

@@ -1,4 +1,6 @@
 //! Node records of a reduced, shared decision diagram: what they mean, and how they are asked.
+#![tactic(auto)]
+
 ghost use Rattle.std.specs.Prelude.{◌≡◌, Decides};
 ghost use Rattle.diagram.specs.Diagram.{decision, link};
 

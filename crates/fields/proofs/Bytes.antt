@@ -1,5 +1,5 @@
 -- One turn of the loops over the bytes of a field.
-use Rattle.std.proofs.Common.{◌≡◌, ℕ, zero, suc, ◌+◌, ◌-◌, ◌*◌, ◌/◌, ◌<◌, ◌≤◌, Bool, true, false, cond, ◌&&◌, eqb, ltb, leb, List, [], ◌∷◌, length, get_or, take, drop, ℤ, pos, Some, None, sym, refl, ap, ◌∙◌, ap₂, ⊎_elim, arith, length-drop, length-take, eq-eqb, le-leb}
+use Rattle.std.proofs.Common.{◌≡◌, ℕ, zero, suc, ◌+◌, ◌-◌, ◌*◌, ◌<◌, ◌≤◌, true, false, eqb, ltb, List, [], ◌∷◌, length, get_or, take, drop, ℤ, pos, Some, None, sym, refl, ap, ◌∙◌, ap₂, ⊎_elim, arith, le-leb}
 use lib.Signed.{lt_z}
 use Rattle.std.proofs.lemmas.List.{at_drop_more, at_drop_all, take_rest}
 use Rattle.std.proofs.lemmas.Bool.{cases_Bool}

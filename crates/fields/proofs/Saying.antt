@@ -1,5 +1,5 @@
 -- What fields say: what is said is well formed, it does not hang on the place, and fields that are written say what was written.
-use Rattle.std.proofs.Common.{◌≡◌, ℕ, ◌+◌, ◌%◌, ◌≤◌, Bool, true, false, cond, ◌&&◌, ◌||◌, eqb, leb, List, [], ◌∷◌, ◌++◌, length, get_or, drop, ℤ, Some, Ok, Option, refl, ap, ◌∙◌, subst, ap₂, arith, length-append, w32, SFits}
+use Rattle.std.proofs.Common.{◌≡◌, ℕ, ◌%◌, ◌≤◌, Bool, true, false, cond, ◌&&◌, ◌||◌, eqb, leb, List, [], ◌∷◌, ◌++◌, length, get_or, drop, ℤ, Some, Ok, Option, refl, ap, ◌∙◌, subst, ap₂, arith, length-append, w32, SFits}
 use Rattle.std.specs.List.{AllByRecursion as All}
 use Rattle.std.proofs.lemmas.Bool.{and_parts, and_from, leb-true, le-leb, cond-true}
 use Rattle.refusal.specs.Answers.{Answer, refuse, and_then, given}

@@ -1,5 +1,5 @@
 -- Fields: how they lie in bytes, what each says, and reading as a fold over fields.
-use Rattle.std.specs.Prelude.{ℕ, zero, suc, ◌+◌, ◌*◌, ◌/◌, ◌%◌, Bool, true, false, cond, ◌&&◌, ◌||◌, List, [], ◌∷◌, ◌++◌, length, take, drop, ℤ, Some, None, Ok, Option, ◌==◌, nat_le, slice_index}
+use Rattle.std.specs.Prelude.{ℕ, zero, suc, ◌+◌, ◌*◌, ◌/◌, ◌%◌, Bool, cond, ◌&&◌, ◌||◌, List, [], ◌∷◌, ◌++◌, length, take, drop, ℤ, Some, None, Ok, Option, ◌==◌, nat_le, slice_index}
 use Rattle.refusal.specs.Answers.{Answer, refuse, and_then, given}
 use Rattle.fields.specs.Words.{is_name, number_of, numbers_of, rises, sides}
 

@@ -1,4 +1,6 @@
 //! The fields of a sheet: a tag byte, a length in two bytes with the high byte first, and the content.
+#![tactic(auto)]
+
 pub mod raw;
 pub mod words;
 pub mod write;

@@ -1,4 +1,6 @@
 //! Reads a vocabulary and requests from standard input, and prints where each request lies in the grid.
+#![tactic(auto)]
+
 use anyhow::anyhow;
 use location::Failure;
 use location::finding::locate;

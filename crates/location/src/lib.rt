@@ -1,4 +1,6 @@
 //! What the program `locate` answers: cells and grid number of each request, or the first refusal.
+#![tactic(auto)]
+
 pub mod finding;
 
 ghost use Rattle.std.specs.Prelude.{◌≡◌};

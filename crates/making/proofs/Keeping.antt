@@ -1,5 +1,5 @@
 -- What the operators keep where a decision is 0 or two are equal, and that they give codes.
-use Rattle.std.proofs.Common.{◌≡◌, ℕ, ◌<◌, ◌≤◌, ◌⊎◌, sym, refl, ap, ◌∙◌, subst, ⊎_elim, arith}
+use Rattle.std.proofs.Common.{◌≡◌, ℕ, ◌<◌, ◌⊎◌, refl, ap, ◌∙◌, ⊎_elim, arith}
 use Rattle.algebra.specs.Tables.{Tables}
 use Rattle.algebra.specs.Laws.{ShortCutLaws}
 use Rattle.algebra.proofs.Derived.{derived_laws}

@@ -4,7 +4,7 @@ use Rattle.std.proofs.lemmas.List.{length-map}
 use Rattle.algebra.specs.Tables.{Tables}
 use Rattle.algebra.specs.Laws.{ShortCutLaws}
 use Rattle.vocabulary.specs.Grid.{grid}
-use Rattle.pages.specs.Pages.{chunk, runs}
+use Rattle.pages.specs.Pages.{chunk}
 use Rattle.pages.proofs.Runs.{chunk-runs, map_runs}
 use Rattle.marking.specs.Marks.{Marked}
 use Rattle.diagram.specs.declared.Node.{Node}
@@ -20,7 +20,7 @@ use Rattle.places.specs.declared.Seen.{Seen}
 use Rattle.places.specs.Places.{KeepWhileMemoryGrows, FillTheGrid, LeadsTo, SettledBy, SeenAs}
 use Rattle.making.specs.Levels.{BranchesWithin}
 use Rattle.making.specs.Negations.{negation_stands, negation_says}
-use Rattle.making.proofs.Seeing.{OneLevel, rises, seen-within}
+use Rattle.making.proofs.Seeing.{OneLevel, seen-within}
 
 module _ (t : Tables) where
   -- an image is as long as the page

@@ -1,11 +1,11 @@
 -- Pairs of links under an operator are places.
-use Rattle.std.proofs.Common.{◌≡◌, ℕ, zero, suc, ◌<◌, ◌≤◌, min, Bool, true, false, cond, ◌⊎◌, List, [], ◌∷◌, map, length, get_or, drop, replicate, sym, refl, ap, ◌∙◌, subst, ap₂, inl, inr, ⊎_elim, arith, drop-cons}
+use Rattle.std.proofs.Common.{◌≡◌, ℕ, suc, ◌<◌, ◌≤◌, min, Bool, true, false, cond, List, [], ◌∷◌, map, length, get_or, drop, replicate, sym, refl, ap, ◌∙◌, subst, ap₂, inl, arith, drop-cons}
 use Rattle.std.specs.List.{AllByRecursion as All}
 use Rattle.std.proofs.lemmas.Bool.{both_ways}
 use Rattle.algebra.specs.Tables.{Tables}
 use Rattle.algebra.specs.Laws.{ShortCutLaws}
 use Rattle.vocabulary.specs.Grid.{grid}
-use Rattle.pages.specs.Pages.{chunk, runs}
+use Rattle.pages.specs.Pages.{chunk}
 use Rattle.pages.specs.Operators.{combined}
 use Rattle.pages.proofs.Runs.{chunk-runs}
 use Rattle.pages.proofs.Operating.{combined-runs, length-combined}

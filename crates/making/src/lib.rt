@@ -1,4 +1,6 @@
 //! What policies are built of: places of which the building walk makes the pages.
+#![tactic(auto)]
+
 pub mod calls;
 pub mod first_steps;
 pub mod levels;

@@ -1,4 +1,6 @@
 //! Which node records are live: a marking over bytes that are lent, one a record, cleared when it ends.
+#![tactic(auto)]
+
 ghost use Rattle.std.specs.Prelude.{◌≡◌, ℕ, ◌<◌, length, replicate, MatchOption, ◌==◌, slice_index, slice_set};
 ghost use Rattle.marking.specs.Marks.{Marked, tally};
 

@@ -1,9 +1,8 @@
 -- What a projection keeps.
-use Rattle.std.proofs.Common.{◌≡◌, ℕ, zero, suc, ◌<◌, Bool, true, false, cond, ◌&&◌, List, [], ◌∷◌, length, get_or, sym, refl, ap, ◌∙◌, ap₂, arith}
-use Rattle.vocabulary.specs.Grid.{grid, number, Cells}
+use Rattle.std.proofs.Common.{◌≡◌, ℕ, zero, suc, ◌<◌, Bool, true, false, cond, ◌&&◌, List, [], ◌∷◌, length, get_or, refl, ap, ◌∙◌, ap₂, arith}
+use Rattle.vocabulary.specs.Grid.{number, Cells}
 use Rattle.vocabulary.proofs.Gridded.{number-below}
-use Rattle.pages.specs.Pages.{paged}
-use Rattle.pages.specs.Projection.{has_bit, allowed, kept_by, projected, AlikeBelow, ProjectionKeepsWhatMasksAllow}
+use Rattle.pages.specs.Projection.{has_bit, allowed, kept_by, AlikeBelow, ProjectionKeepsWhatMasksAllow}
 use Rattle.pages.proofs.Operating.{length-paged, get_d_paged, paged-same}
 
 -- the masks allow cells whose bits are all set, by induction on the cells

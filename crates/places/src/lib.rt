@@ -1,4 +1,6 @@
 //! What a building walk is asked to build: places that stand at a level and have a page there.
+#![tactic(auto)]
+
 ghost use Rattle.std.specs.Prelude.{ℕ, ◌<◌, List};
 ghost use Rattle.diagram.specs.declared.Node.{Node as Nodes};
 ghost use Rattle.places.specs.Places.{SamePlaces, SeenAs, LeadsTo};

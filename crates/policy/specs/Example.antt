@@ -1,11 +1,10 @@
 -- Two worked policy sheets over the worked vocabulary, under permit and deny.
-use Rattle.std.specs.Prelude.{◌≡◌, ℕ, List, [], ◌∷◌, ◌++◌, map, pos, negsuc, Ok, codes}
+use Rattle.std.specs.Prelude.{◌≡◌, ℕ, List, [], ◌∷◌, ◌++◌, map, pos, Ok, codes}
 use Rattle.refusal.specs.Answers.{refuse}
 use Rattle.fields.specs.Words.{number_bytes}
 use Rattle.fields.specs.Fields.{framed, sheet_bytes}
 use Rattle.algebra.specs.PermitDeny.{permit_deny}
 use Rattle.request.specs.Example.{example_vocabulary}
-use Rattle.policy.specs.Rules.{Rule}
 use Rattle.policy.specs.Sheets.{policy_of, sheet_meaning}
 
 -- permit role=fitter, then deny act=write; the first rule that matches decides

@@ -1,5 +1,5 @@
 -- What a policy sheet says, read with a vocabulary and an algebra.
-use Rattle.std.specs.Prelude.{◌≡◌, ℕ, zero, suc, ◌+◌, ◌-◌, Bool, true, false, cond, ◌&&◌, ◌||◌, List, [], ◌∷◌, ◌++◌, length, replicate, ℤ, Some, None, Ok, Err, Option, ◌==◌, nat_le, nat_lt, slice_index_or, slice_set}
+use Rattle.std.specs.Prelude.{◌≡◌, ℕ, zero, suc, ◌+◌, ◌-◌, Bool, cond, ◌&&◌, ◌||◌, List, [], ◌∷◌, ◌++◌, length, replicate, ℤ, Some, None, Ok, Err, Option, ◌==◌, nat_le, nat_lt, slice_index_or, slice_set}
 use Rattle.refusal.specs.Answers.{Answer, refuse, and_then, given}
 use Rattle.fields.specs.Fields.{Framed, reading, limited, when, Said, attribute, value, cuts, way, rule, choice, range, measure, said_by}
 use Rattle.algebra.specs.Tables.{Tables}

@@ -1,4 +1,6 @@
 //! Policies that come from outside.
+#![tactic(auto)]
+
 pub mod counting;
 pub mod grid;
 pub mod laws;

@@ -1,5 +1,5 @@
 -- One sweep closes the marks of one level more, for the branches of a sound record lead to later levels.
-use Rattle.std.proofs.Common.{◌≡◌, ℕ, zero, suc, ◌+◌, ◌<◌, ◌≤◌, Bool, true, false, cond, ◌&&◌, eqb, ◌≢◌, ◌⊎◌, List, [], ◌∷◌, length, get_or, replicate, sym, refl, ap, ◌∙◌, subst, inl, inr, ⊎_elim, add-one, arith}
+use Rattle.std.proofs.Common.{◌≡◌, ℕ, suc, ◌+◌, ◌<◌, ◌≤◌, Bool, true, false, cond, ◌&&◌, eqb, ◌≢◌, ◌⊎◌, List, length, get_or, replicate, sym, refl, ap, ◌∙◌, subst, inl, inr, ⊎_elim, add-one, arith}
 use Rattle.std.specs.List.{AllByRecursion as All}
 use Rattle.std.proofs.ByRecursion.{All-get_or}
 use Rattle.std.proofs.lemmas.List.{get_or_past, get_or-replicate, length-replicate}
@@ -8,7 +8,7 @@ use Rattle.marking.specs.Marks.{Marked}
 use Rattle.diagram.specs.declared.Node.{Node}
 use Rattle.diagram.specs.declared.Link.{Link}
 use Rattle.diagram.specs.declared.Link.TheVariants.{Decision, Record}
-use Rattle.diagram.specs.Diagram.{node, branch, link}
+use Rattle.diagram.specs.Diagram.{node, link}
 use Rattle.diagram.specs.Sound.{Fit, Met}
 use Rattle.diagram.specs.Marks.{Closed}
 use Rattle.reaching.specs.Roots.{marked_by_all, first_links, swept_one, SoundRoots}

@@ -1,4 +1,6 @@
 //! Marking all that roots reach, one sweep a level, on any node memory.
+#![tactic(auto)]
+
 ghost use Rattle.std.specs.Prelude.{◌≡◌, ℕ, suc, ◌≤◌, List, [], ◌∷◌, map, length, replicate, slice_index};
 ghost use Rattle.vocabulary.specs.Grid.{Filled};
 ghost use Rattle.pages.specs.Sizes.{size};

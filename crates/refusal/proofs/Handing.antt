@@ -1,5 +1,5 @@
 -- How answers follow one another: a refusal is handed on, a value is gone on with.
-use Rattle.std.proofs.Common.{◌≡◌, Bool, cond, Ok, Err, Result, sym, refl, ap, ◌∙◌}
+use Rattle.std.proofs.Common.{◌≡◌, Bool, cond, Ok, Err, Result, ap, ◌∙◌}
 use Rattle.refusal.specs.declared.Refusal.{Refusal}
 use Rattle.refusal.specs.Answers.{Answer, told_by, and_then, answer_by}
 

@@ -1,4 +1,6 @@
 //! Refusals: what is wrong with an input or a call, where, and in which layer.
+#![tactic(auto)]
+
 ghost use Rattle.std.specs.Prelude.{◌≡◌};
 ghost use Rattle.refusal.specs.Numbers.{number_of, layer_of, layer_number};
 

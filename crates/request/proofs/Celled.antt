@@ -1,8 +1,8 @@
 -- A request that is read gives cells of the shape.
-use Rattle.std.proofs.Common.{◌≡◌, ℕ, zero, suc, ◌+◌, ◌-◌, ◌<◌, ◌≤◌, ◌||◌, eqb, leb, List, [], ◌∷◌, map, length, get_or, set, replicate, Some, None, Ok, Option, sym, refl, ap, ◌∙◌, subst, arith}
+use Rattle.std.proofs.Common.{◌≡◌, ℕ, zero, suc, ◌<◌, ◌||◌, eqb, leb, List, [], ◌∷◌, length, get_or, set, Some, None, Ok, Option, sym, subst, arith}
 use lib.ListN.{length-map}
 use Rattle.std.proofs.lemmas.List.{get_or-map}
-use Rattle.refusal.specs.Answers.{Answer, refuse, and_then, given}
+use Rattle.refusal.specs.Answers.{refuse, and_then}
 use Rattle.fields.specs.Fields.{Framed, Said, attribute, value, cuts, way, rule, choice, range, measure, said_by, reading}
 use Rattle.fields.proofs.Answering.{not_both, same_value, and_then_value, given_value, either_way}
 use Rattle.fields.proofs.Reading.{kept}
@@ -11,7 +11,7 @@ use Rattle.vocabulary.specs.Vocabulary.{Kind, valued, ranged, Attribute, count, 
 use Rattle.vocabulary.specs.Lookup.{no_attribute, attribute_at, value_cell, number_cell}
 use Rattle.vocabulary.proofs.Known.{place-below}
 use Rattle.vocabulary.proofs.Cutting.{cell_ends_within}
-use Rattle.request.specs.Request.{Given, give_once, given_cell, give, take_in, ask, none_given, all_given, request_of, ReadGivesCells}
+use Rattle.request.specs.Request.{Given, give_once, given_cell, give, take_in, ask, none_given, all_given, ReadGivesCells}
 
 -- what is given so far fits the shape
 abbrev Fits : List ℕ → Given → Type 0

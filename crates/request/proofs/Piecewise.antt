@@ -1,7 +1,7 @@
 -- A request field by field: how long each field is, and what is left after some of them.
 use Rattle.std.proofs.Common.{◌≡◌, ℕ, suc, ◌+◌, ◌<◌, ◌≤◌, Bool, true, false, cond, leb, List, [], ◌∷◌, ◌++◌, length, get_or, take, drop, is_some, Ok, sym, refl, ap, ◌∙◌, ap₂, arith, length-append}
 use lib.ListN.{length-map}
-use Rattle.std.proofs.lemmas.List.{drop_more, drop_all, take_at, get_or-map}
+use Rattle.std.proofs.lemmas.List.{drop_more, drop_all, take_at}
 use Rattle.std.proofs.lemmas.Bool.{leb-true}
 use Rattle.refusal.specs.Answers.{Answer, refuse}
 use Rattle.fields.specs.Fields.{field_bytes}

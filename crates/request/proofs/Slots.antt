@@ -1,5 +1,5 @@
 -- The array in which a request's cells are collected.
-use Rattle.std.proofs.Common.{◌≡◌, ℕ, zero, suc, ◌<◌, ◌≤◌, List, [], ◌∷◌, length, take, set, replicate, sym, refl, ap, ◌∙◌, arith}
+use Rattle.std.proofs.Common.{◌≡◌, ℕ, zero, suc, ◌<◌, ◌≤◌, List, [], ◌∷◌, take, set, replicate, refl, ap, arith}
 
 -- the front of equal entries is as many equal entries
 pub take-replicate : {X : Type 0} (x : X) (n m : ℕ) → n ≤ m → take n (replicate m x) ≡ replicate n x

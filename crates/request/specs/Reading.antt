@@ -1,5 +1,5 @@
 -- What the code's reader has been given, in the words of the formats.
-use Rattle.std.specs.Prelude.{◌≡◌, List, take, Ok, Err, Result}
+use Rattle.std.specs.Prelude.{◌≡◌, take, Ok, Err, Result}
 use Rattle.refusal.specs.declared.Refusal.{Refusal}
 use Rattle.refusal.specs.Answers.{Answer, told_by}
 use Rattle.request.specs.declared.given.Given.{Given}

@@ -1,5 +1,5 @@
 -- Requests: what one says, and one for any cells.
-use Rattle.std.specs.Prelude.{◌≡◌, ℕ, ◌+◌, ◌≤◌, Bool, true, false, cond, ◌||◌, List, [], ◌∷◌, ◌++◌, length, replicate, ℤ, Some, None, Ok, Option, ◌==◌, slice_index_or, slice_set}
+use Rattle.std.specs.Prelude.{◌≡◌, ℕ, ◌+◌, ◌≤◌, cond, ◌||◌, List, [], ◌∷◌, ◌++◌, length, replicate, Some, None, Ok, Option, ◌==◌, slice_index_or, slice_set}
 use Rattle.refusal.specs.Answers.{Answer, refuse, and_then, given}
 use Rattle.fields.specs.Words.{number_bytes}
 use Rattle.fields.specs.Fields.{Framed, framed, sheet_bytes, reading, limited, Said, attribute, value, cuts, way, rule, choice, range, measure, said_by}

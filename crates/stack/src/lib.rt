@@ -1,4 +1,6 @@
 //! A stack over slots that are handed over: no call allocates, and a full stack is an answer.
+#![tactic(auto)]
+
 ghost use Rattle.std.specs.Prelude.{◌≡◌, ◌-◌, ◌<◌, ◌≤◌, true, false, length, MatchOption, MatchResult};
 ghost use Rattle.stack.specs.Entries.{Empty, Newest, Pushed, Refused, Reversed, TooFewSlots};
 

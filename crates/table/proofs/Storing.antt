@@ -1,16 +1,16 @@
 -- Memory that grows, and a sound set with one more record.
-use Rattle.std.proofs.Common.{◌≡◌, ℕ, ◌<◌, ◌⊎◌, List, length, get_or, set, Some, None, Option, sym, refl, ap, ◌∙◌, subst, inl, inr, ⊎_elim, arith, length-set}
+use Rattle.std.proofs.Common.{◌≡◌, ℕ, ◌<◌, ◌⊎◌, List, length, get_or, set, Some, None, Option, sym, ap, ◌∙◌, subst, inl, inr, ⊎_elim, arith, length-set}
 use Rattle.std.proofs.lemmas.List.{get_or_past, get_or-set_same, get_or-set_other}
 use Rattle.std.proofs.lemmas.Bool.{cases_eq, cases_lt}
 use Rattle.marking.specs.Marks.{Marked}
 use Rattle.diagram.specs.declared.Node.{Node}
 use Rattle.diagram.specs.declared.Link.{Link}
 use Rattle.diagram.specs.Diagram.{blank, node, link}
-use Rattle.diagram.specs.Sound.{Proper, Alike, Sound}
+use Rattle.diagram.specs.Sound.{Proper, Sound}
 use Rattle.diagram.specs.Growing.{Grown}
 use Rattle.diagram.proofs.Changing.{one_more}
 use Rattle.diagram.proofs.Denoting.{agree_set}
-use Rattle.table.specs.Made.{NoneIsAlike, Found, Taken, Full, Made, LiveStays, Stored}
+use Rattle.table.specs.Made.{NoneIsAlike, Taken, Made, LiveStays, Stored}
 use Rattle.table.specs.Reduced.{Reduced}
 
 -- memory that has grown and grows again has grown

@@ -3,7 +3,6 @@ use Rattle.std.specs.Prelude.{◌≡◌, ℕ, suc, ◌<◌, ◌≤◌, ◌≢◌
 use Rattle.vocabulary.specs.Grid.{grid, Filled}
 use Rattle.pages.specs.Pages.{runs}
 use Rattle.pages.specs.Parts.{Part}
-use Rattle.marking.specs.Marks.{Marked}
 use Rattle.diagram.specs.declared.Node.{Node}
 use Rattle.diagram.specs.declared.Link.{Link}
 use Rattle.diagram.specs.declared.Link.TheVariants.{Decision, Record}

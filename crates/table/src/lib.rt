@@ -1,4 +1,6 @@
 //! Finding or making node records: no two live records are alike, and none has the same link in every cell.
+#![tactic(auto)]
+
 ghost use Rattle.std.specs.Prelude.{◌≡◌, ℕ, ◌<◌, ◌≤◌, true, false, List, length, Decides, MatchOption};
 ghost use Rattle.pages.specs.Pages.{runs};
 ghost use Rattle.marking.specs.Marks.{Marked};

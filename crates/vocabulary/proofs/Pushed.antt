@@ -1,5 +1,5 @@
 -- One more attribute: its cells multiply the grid.
-use Rattle.std.proofs.Common.{◌≡◌, ℕ, ◌+◌, ◌*◌, ◌<◌, ◌≤◌, List, [], ◌∷◌, ◌++◌, map, length, take, set, sym, refl, ap, ◌∙◌, mul_assoc, one-mul, mul-one, arith}
+use Rattle.std.proofs.Common.{◌≡◌, ℕ, ◌+◌, ◌*◌, ◌<◌, List, [], ◌∷◌, ◌++◌, length, take, set, sym, ap, ◌∙◌, mul_assoc, one-mul, mul-one}
 use Rattle.std.proofs.lemmas.List.{map-append, take_more_set}
 use Rattle.vocabulary.specs.declared.parts.Attribute.{Attribute}
 use Rattle.vocabulary.specs.Grid.{grid}

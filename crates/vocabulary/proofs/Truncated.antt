@@ -1,5 +1,5 @@
 -- What is asked of a vocabulary comes out of a truncation, since each part of it has one proof at most.
-use Rattle.std.proofs.Common.{◌≡◌, ℕ, Bool, true, ◌≢◌, List, [], ◌∷◌, ℤ, w32, SFits}
+use Rattle.std.proofs.Common.{◌≡◌, ℕ, true, ◌≢◌, List, [], ◌∷◌, w32, SFits}
 use mathlib.Core.Logic.{∥∥₁_elim}
 use mathlib.Core.HLevel.{⊥_prop}
 use mathlib.Core.Bool.{Bool-set}

@@ -1,5 +1,5 @@
 -- Vocabularies: attributes by name, each with value names or rising cuts, and what a vocabulary sheet says.
-use Rattle.std.specs.Prelude.{◌≡◌, ℕ, suc, ◌+◌, ◌-◌, ◌*◌, ◌≤◌, Bool, true, false, cond, ◌&&◌, ◌||◌, ◌≢◌, List, [], ◌∷◌, ◌++◌, map, length, ℤ, Some, None, Ok, Option, FitsSigned, ◌==◌, nat_le}
+use Rattle.std.specs.Prelude.{◌≡◌, ℕ, suc, ◌+◌, ◌-◌, ◌*◌, ◌≤◌, Bool, true, false, cond, ◌||◌, ◌≢◌, List, [], ◌∷◌, ◌++◌, map, length, ℤ, Some, None, Ok, Option, FitsSigned, ◌==◌, nat_le}
 use Rattle.std.specs.Int.{w32}
 use Rattle.std.specs.List.{AllByRecursion as All}
 use Rattle.refusal.specs.Answers.{Answer, refuse, and_then}

@@ -1,4 +1,6 @@
 //! Vocabularies: attributes with named values or rising cuts, their cells, shape and grid numbers.
+#![tactic(auto)]
+
 mod attributes;
 pub mod laws;
 mod names;

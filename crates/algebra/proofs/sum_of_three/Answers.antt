@@ -1,4 +1,4 @@
-use Rattle.std.proofs.Common.{◌≡◌, ap, ◌∙◌, arith}
+use Rattle.std.proofs.Common.{◌≡◌, arith}
 use Rattle.algebra.proofs.Groupings.{sum_of_three_lem}
 use Rattle.algebra.proofs.sum_of_three.Goals as goal
 

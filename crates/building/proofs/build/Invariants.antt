@@ -1,4 +1,4 @@
-use Rattle.std.proofs.Common.{◌≡◌, ℕ, length}
+use Rattle.std.proofs.Common.{◌≡◌, length}
 use Rattle.table.specs.Made.{LiveStays}
 use Rattle.building.specs.Work.{frames, work_left}
 use Rattle.building.specs.Walk.{Aim, Underway}

@@ -1,6 +1,6 @@
-use Rattle.std.proofs.Common.{◌≡◌, ℕ, ◌+◌, ◌<◌, ◌≤◌, List, ◌∷◌, length, drop, sym, refl, ap, ◌∙◌, subst, arith, length-set, rules}
-use Rattle.building.specs.Work.{frames, opening_work, waiting_work}
-use Rattle.building.specs.Walk.{fresh, Aim, Opening}
+use Rattle.std.proofs.Common.{◌≡◌, ◌+◌, ◌∷◌, length, drop, sym, refl, ap, ◌∙◌, subst, arith, length-set}
+use Rattle.building.specs.Work.{frames, waiting_work}
+use Rattle.building.specs.Walk.{fresh, Opening}
 use Rattle.building.proofs.Measuring.{two_turns, later_is_less, open_falls}
 use Rattle.building.proofs.Stacking.{frames_onto, frames-length}
 use Rattle.building.proofs.Walking.{frames-within_levels}

@@ -1,12 +1,12 @@
-use Rattle.std.proofs.Common.{◌≡◌, ℕ, ◌+◌, ◌<◌, ◌≤◌, List, [], ◌∷◌, length, get_or, sym, refl, ap, ◌∙◌, subst, ⊎_elim, arith, length-set, rules}
+use Rattle.std.proofs.Common.{◌≡◌, ℕ, ◌+◌, ◌<◌, List, ◌∷◌, length, get_or, sym, refl, ap, ◌∙◌, subst, ⊎_elim, arith, length-set, rules}
 use Rattle.std.proofs.lemmas.List.{get_or_past}
 use Rattle.std.proofs.lemmas.Bool.{cases_lt}
 use Rattle.table.proofs.Storing.{unwritten, reduced_stays}
 use Rattle.building.specs.Work.{frames, waiting_work}
-use Rattle.building.specs.Walk.{Aim, Opening, Handing}
+use Rattle.building.specs.Walk.{Opening, Handing}
 use Rattle.building.proofs.Measuring.{cell_falls}
 use Rattle.building.proofs.Stacking.{frames_onto}
-use Rattle.building.proofs.Walking.{answered, at_a_cell, goes_on, hands_on, lacks}
+use Rattle.building.proofs.Walking.{at_a_cell, goes_on, hands_on, lacks}
 use Rattle.building.proofs.up.Goals as goal
 
 -- a level that has a cell is one of the shape

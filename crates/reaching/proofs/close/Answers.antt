@@ -1,4 +1,4 @@
-use Rattle.std.proofs.Common.{◌≡◌, sym, refl, ◌∙◌, subst, add-one}
+use Rattle.std.proofs.Common.{sym, refl, ◌∙◌, subst, add-one}
 use Rattle.reaching.specs.Swept.{ClosedBelow}
 use Rattle.reaching.proofs.Sweeping.{keeps_on, all_closed}
 use Rattle.reaching.proofs.close.Goals as goal

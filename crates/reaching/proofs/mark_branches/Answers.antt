@@ -1,4 +1,4 @@
-use Rattle.std.proofs.Common.{◌≡◌, sym, ◌∙◌, ap₂}
+use Rattle.std.proofs.Common.{sym, ◌∙◌, ap₂}
 use Rattle.reaching.specs.Roots.{marked_by}
 use Rattle.reaching.proofs.Linked.{first_more}
 use Rattle.reaching.proofs.mark_branches.Goals as goal

@@ -1,4 +1,4 @@
-use Rattle.std.proofs.Common.{◌≡◌, ◌+◌, length, sym, refl, ap, ◌∙◌, subst, arith}
+use Rattle.std.proofs.Common.{◌+◌, sym, refl, ◌∙◌, subst, arith}
 use Rattle.reaching.specs.Swept.{StaysMarked}
 use Rattle.reaching.proofs.Sweeping.{SweptTo, one_keeps, keeps_itself, keeps_on, sweep_begins, swept_more, sweep_ends}
 use Rattle.reaching.proofs.sweep.Goals as goal

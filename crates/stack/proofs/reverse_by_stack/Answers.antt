@@ -1,4 +1,4 @@
-use Rattle.std.proofs.Common.{◌≡◌, ◌<◌, length, take, sym, ap, ◌∙◌, arith, rules}
+use Rattle.std.proofs.Common.{◌≡◌, ◌<◌, length, ap, ◌∙◌, arith, rules}
 use Rattle.stack.proofs.LastInFirstOut.{pushed_next, popped_next, all_written, still_held}
 use Rattle.stack.proofs.reverse_by_stack.Goals as goal
 

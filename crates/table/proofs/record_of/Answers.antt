@@ -1,4 +1,4 @@
-use Rattle.std.proofs.Common.{◌≡◌, Some, None, sym, refl, subst, inr, rules}
+use Rattle.std.proofs.Common.{Some, None, sym, refl, subst, inr, rules}
 use Rattle.pages.specs.Pages.{runs}
 use Rattle.marking.specs.Marks.{Marked}
 use Rattle.table.specs.Built.{Built}

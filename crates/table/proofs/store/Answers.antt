@@ -1,4 +1,4 @@
-use Rattle.std.proofs.Common.{◌≡◌, length, set, sym, refl, subst, inr, rules}
+use Rattle.std.proofs.Common.{set, sym, refl, subst, inr, rules}
 use Rattle.table.specs.Made.{Stored}
 use Rattle.table.proofs.Storing.{stored_anew}
 use Rattle.table.proofs.store.Goals as goal

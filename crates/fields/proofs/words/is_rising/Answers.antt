@@ -1,6 +1,6 @@
-use Rattle.std.proofs.Common.{◌≡◌, suc, ◌+◌, ◌-◌, drop, sym, ap, ◌∙◌, arith, w32, SFits, rules}
+use Rattle.std.proofs.Common.{◌-◌, sym, ◌∙◌, arith, w32, SFits, rules}
 use Rattle.std.proofs.lemmas.Int.{to_z-of_z}
-use Rattle.fields.specs.Words.{numbers_of, rises}
+use Rattle.fields.specs.Words.{numbers_of}
 use Rattle.fields.proofs.Numbering.{length_numbers}
 use Rattle.fields.proofs.Bytes.{rises-at, falls_at, rises_all}
 use Rattle.fields.proofs.words.is_rising.Goals as goal

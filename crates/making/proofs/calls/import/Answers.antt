@@ -1,4 +1,4 @@
-use Rattle.std.proofs.Common.{◌≡◌, ◌+◌, ◌^◌, ◌<◌, ap, ◌∙◌, arith, rules}
+use Rattle.std.proofs.Common.{ap, ◌∙◌, arith, rules}
 use Rattle.vocabulary.specs.Record.{counts_of}
 use Rattle.making.proofs.Carried.{carried}
 use Rattle.making.proofs.Spanning.{spans_keep, spans_fill}

@@ -1,4 +1,4 @@
-use Rattle.std.proofs.Common.{◌≡◌, ℕ, List, Some, refl, ap, ◌∙◌}
+use Rattle.std.proofs.Common.{ℕ, List, Some, refl, ap, ◌∙◌}
 use Rattle.vocabulary.specs.Grid.{grid}
 use Rattle.vocabulary.specs.Record.{counts_of}
 use Rattle.making.specs.Operators.{operator_of}

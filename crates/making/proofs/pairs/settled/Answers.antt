@@ -1,4 +1,4 @@
-use Rattle.std.proofs.Common.{refl, ap, inl, inr}
+use Rattle.std.proofs.Common.{ap, inl, inr}
 use Rattle.making.specs.Pairs.{is_decision}
 use Rattle.making.proofs.Pairing.{settled_by_decisions, settled_by_same, settled_by_left, settled_by_right}
 use Rattle.making.proofs.pairs.settled.Goals as goal

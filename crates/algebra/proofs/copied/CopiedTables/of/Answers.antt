@@ -1,6 +1,5 @@
-use Rattle.std.proofs.Common.{◌≡◌, sym, subst}
+use Rattle.std.proofs.Common.{sym, subst}
 use Rattle.algebra.specs.Laws.{ShortCutLaws, RegroupingLaws}
-use Rattle.algebra.specs.Layout.{laid_out}
 use Rattle.algebra.proofs.Copying.{copy_means_the_same}
 use Rattle.algebra.proofs.copied.CopiedTables.of.Goals as goal
 

@@ -1,4 +1,4 @@
-use Rattle.std.proofs.Common.{◌≡◌, ◌<◌, ◌≤◌, length, None, sym, ap, ◌∙◌, arith, length-take}
+use Rattle.std.proofs.Common.{◌<◌, ◌≤◌, length, None, sym, ap, ◌∙◌, arith, length-take}
 use Rattle.std.proofs.lemmas.List.{get_or-take}
 use Rattle.policy.specs.Walks.{seen_in, missed}
 use Rattle.policy.proofs.Seeing.{misses, goes_on, none_left}

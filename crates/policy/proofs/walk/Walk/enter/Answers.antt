@@ -1,4 +1,4 @@
-use Rattle.std.proofs.Common.{◌≡◌, ◌<◌, length, subst, arith}
+use Rattle.std.proofs.Common.{◌≡◌, length, subst, arith}
 use Rattle.vocabulary.specs.Record.{attributes_of}
 use Rattle.vocabulary.proofs.Known.{attribute_below}
 use Rattle.policy.specs.Walks.{Knows}

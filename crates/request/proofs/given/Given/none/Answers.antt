@@ -1,4 +1,4 @@
-use Rattle.std.proofs.Common.{replicate, None, ap, ◌∙◌, arith}
+use Rattle.std.proofs.Common.{replicate, None, ap, ◌∙◌}
 use Rattle.request.proofs.Slots.{take-replicate}
 use Rattle.request.proofs.given.Given.none.Goals as goal
 

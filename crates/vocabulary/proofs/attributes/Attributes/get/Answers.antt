@@ -1,4 +1,4 @@
-use Rattle.std.proofs.Common.{◌≡◌, ◌<◌, ◌≤◌, length, take, sym, ap, ◌∙◌, arith, length-take}
+use Rattle.std.proofs.Common.{◌<◌, length, take, ap, ◌∙◌, arith, length-take}
 use Rattle.std.proofs.lemmas.List.{get_or-map, get_or-take, get_or_past}
 use Rattle.vocabulary.specs.Parts.{attribute_in, attributes_in}
 use Rattle.vocabulary.proofs.Entering.{how_many_attributes}

@@ -1,4 +1,4 @@
-use Rattle.std.proofs.Common.{◌≡◌, ℕ, ◌-◌, ◌*◌, ◌≤◌, length, Ok, Err, sym, ap, ◌∙◌, subst}
+use Rattle.std.proofs.Common.{ℕ, ◌-◌, ◌*◌, ◌≤◌, length, Ok, Err, sym, ap, ◌∙◌, subst}
 use Rattle.refusal.specs.Answers.{told_by}
 use Rattle.vocabulary.specs.Vocabulary.{bounded}
 use Rattle.vocabulary.specs.Parts.{name_at, attributes_in}

@@ -1,4 +1,4 @@
-use Rattle.std.proofs.Common.{◌≡◌, get_or, pos, sym, ap, ◌∙◌, arith, w32, SFits, to_z, of_z, rules}
+use Rattle.std.proofs.Common.{get_or, pos, sym, ap, ◌∙◌, w32, SFits, to_z, of_z, rules}
 use Rattle.std.proofs.lemmas.Int.{to_z-of_z}
 use Rattle.vocabulary.specs.Lookup.{cut_place}
 use Rattle.vocabulary.proofs.Placing.{cut_start, cut_here, cut_later, cut_nowhere}
