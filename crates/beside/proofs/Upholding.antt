@@ -1,6 +1,6 @@
 -- What is built in a memory where just the standing policies are marked stands beside them.
 use Rattle.std.proofs.Common.{◌≡◌, ℕ, List, [], ◌∷◌, Some, None, Option, refl, ap₂}
-use Rattle.std.specs.List.{AllByRecursion as All}
+use Rattle.std.specs.List.{AllByRecursion}
 use Rattle.vocabulary.specs.Grid.{Filled}
 use Rattle.marking.specs.Marks.{Marked}
 use Rattle.diagram.specs.declared.Node.{Node}
@@ -25,7 +25,7 @@ module _ (k : ℕ) (shape : List ℕ) (nodes : List Node) (roots : List Link) (m
       (λ r m c b s e _. closed.what_they_lead_to_is_marked r m c b s e)
 
   -- and the roots may stand on them
-  pub roots_fit : All (Fit k nodes (Marked marks) 0) roots
+  pub roots_fit : AllByRecursion (Fit k nodes (Marked marks) 0) roots
   roots_fit = fits_sub k shape nodes (Met nodes shape roots) sound.what_they_reach_is_sound (Marked marks) roots sound.each_root_fits (λ i r b e _. closed.roots_are_marked i r b e)
 
   -- and so may every link that stands on what the roots reach
@@ -39,19 +39,19 @@ module _ (k : ℕ) (shape : List ℕ) (nodes : List Node) (roots : List Link) (m
 
   module _ (nodes' : List Node) (marks' : List ℕ) (p : List ℕ) where
     -- in the memory that has grown the roots fit and keep their pages
-    fit_there : (r : Option Link) → Built k shape nodes (Marked marks) nodes' (Marked marks') 0 p r → (ls : List Link) → All (Fit k nodes (Marked marks) 0) ls → All (Fit k nodes' (Marked marks') 0) ls
+    fit_there : (r : Option Link) → Built k shape nodes (Marked marks) nodes' (Marked marks') 0 p r → (ls : List Link) → AllByRecursion (Fit k nodes (Marked marks) 0) ls → AllByRecursion (Fit k nodes' (Marked marks') 0) ls
     fit_there r b [] f = tt
     fit_there r b (l ∷ ls) f =
         let grown = b.memory_has_grown in
         (fit_frame k shape nodes nodes' (Marked marks) (Marked marks') grown.live_records_stay grown.live_stays_live 0 l f.0, fit_there r b ls f.1)
 
-    kept_there : (r : Option Link) → Built k shape nodes (Marked marks) nodes' (Marked marks') 0 p r → (ls : List Link) → All (Fit k nodes (Marked marks) 0) ls → pages_of shape nodes' ls ≡ pages_of shape nodes ls
+    kept_there : (r : Option Link) → Built k shape nodes (Marked marks) nodes' (Marked marks') 0 p r → (ls : List Link) → AllByRecursion (Fit k nodes (Marked marks) 0) ls → pages_of shape nodes' ls ≡ pages_of shape nodes ls
     kept_there r b [] f = refl
     kept_there r b (l ∷ ls) f =
         ap₂ ◌∷◌ (page_frame k shape nodes (Marked marks) marked_sound nodes' b.memory_has_grown.live_records_stay 0 shape refl l f.0) (kept_there r b ls f.1)
 
     -- roots that fit on a sound set are sound by themselves
-    by_themselves : Sound k shape nodes' (Marked marks') → (ls : List Link) → All (Fit k nodes' (Marked marks') 0) ls → SoundRoots k shape nodes' ls
+    by_themselves : Sound k shape nodes' (Marked marks') → (ls : List Link) → AllByRecursion (Fit k nodes' (Marked marks') 0) ls → SoundRoots k shape nodes' ls
     by_themselves s ls f = record { what_they_reach_is_sound = met_sound k shape nodes' (Marked marks') s filled ls f; each_root_fits = met_fits k shape nodes' (Marked marks') s filled ls f }
 
     others : (r : Option Link) → Built k shape nodes (Marked marks) nodes' (Marked marks') 0 p r → StillStand k shape nodes nodes' roots

@@ -1,6 +1,6 @@
 -- When node memory suffices.
 use Rattle.std.proofs.Common.{◌≡◌, ℕ, suc, ◌<◌, ◌≤◌, true, false, cond, eqb, ◌≢◌, List, ◌∷◌, map, length, sym, refl, ap, ◌∙◌, subst, ⊎_elim, arith}
-use Rattle.std.specs.List.{flat_map, AllByRecursion as All}
+use Rattle.std.specs.List.{flat_map, AllByRecursion}
 use Rattle.std.proofs.ByRecursion.{All-weaker, All-map}
 use Rattle.std.proofs.lemmas.Bool.{eqb-true, eq-eqb, cases_Bool}
 use Rattle.pages.specs.Parts.{Part, same, has}
@@ -19,7 +19,7 @@ use Rattle.diagram.proofs.Denoting.{part_eqb, all_met_live, all_parts-met, size-
 
 module _ (k : ℕ) (shape : List ℕ) (nodes : List Node) (Live : ℕ → Type 0) (sound : Sound k shape nodes Live) (filled : Filled shape) where
   -- the parts of the pages are, in order, those of the records met, so a part of one is held by a record and a record holds a part of one
-  pub held : (roots : List Link) → All (Fit k nodes Live 0) roots → HeldByRecords shape nodes Live roots
+  pub held : (roots : List Link) → AllByRecursion (Fit k nodes Live 0) roots → HeldByRecords shape nodes Live roots
   held roots a =
       record {
         in_order = order;
@@ -42,7 +42,7 @@ module _ (k : ℕ) (shape : List ℕ) (nodes : List Node) (Live : ℕ → Type 0
       order = all_parts-met k shape nodes Live sound filled roots a
 
   -- what stands has no more distinct branching parts than there are records
-  pub enough : (roots : List Link) → All (Fit k nodes Live 0) roots → size shape (map (page nodes 0 shape) roots) ≤ length nodes
+  pub enough : (roots : List Link) → AllByRecursion (Fit k nodes Live 0) roots → size shape (map (page nodes 0 shape) roots) ≤ length nodes
   enough roots a =
       let e : size shape (map (page nodes 0 shape) roots) ≡ count eqb (flat_map (met nodes 0 shape) roots) = size-met k shape nodes Live sound filled roots a in
       let h : count eqb (flat_map (met nodes 0 shape) roots) ≤ length nodes =

@@ -1,6 +1,6 @@
 -- A sound set of records when node memory changes, when one more record is made, and when only what is met from some roots is kept.
 use Rattle.std.proofs.Common.{◌≡◌, ℕ, zero, suc, ◌<◌, ◌≤◌, Bool, true, false, ◌||◌, eqb, ◌⊎◌, List, [], ◌∷◌, ◌++◌, length, get_or, drop, set, sym, refl, ap, ◌∙◌, subst, subst₂, ⊎_elim, arith, length-set}
-use Rattle.std.specs.List.{flat_map, AllByRecursion as All}
+use Rattle.std.specs.List.{flat_map, AllByRecursion}
 use Rattle.std.proofs.lemmas.List.{get_or-set_same}
 use Rattle.std.proofs.lemmas.Bool.{both_ways, eqb-true, eq-eqb, or_cases}
 use Rattle.pages.specs.Pages.{runs}
@@ -30,7 +30,7 @@ module _ (k : ℕ) (shape : List ℕ) (nodes : List Node) (Live : ℕ → Type 0
   fit_sub j (Record r) f h = (h r refl f.0, f.1)
 
   -- and so all links
-  pub fits_sub : (roots : List Link) → All (Fit k nodes Live 0) roots → ((i r : ℕ) → i < length roots → get_or roots i (Decision 0) ≡ Record r → Live r → Sub r) → All (Fit k nodes Sub 0) roots
+  pub fits_sub : (roots : List Link) → AllByRecursion (Fit k nodes Live 0) roots → ((i r : ℕ) → i < length roots → get_or roots i (Decision 0) ≡ Record r → Live r → Sub r) → AllByRecursion (Fit k nodes Sub 0) roots
   fits_sub [] a h = tt
   fits_sub (l ∷ ls) a h = (fit_sub 0 l a.0 (λ s e. h 0 s (omega arith) e), fits_sub ls a.1 (λ i r b e. h (suc i) r (omega arith) e))
 
@@ -120,7 +120,7 @@ module _ (k : ℕ) (shape : List ℕ) (nodes : List Node) (Live : ℕ → Type 0
       (has_cases eqb r (record_at nodes j l) (runs n F) h))
 
   -- the same from several roots
-  all_closed : (roots : List Link) → All (Fit k nodes Live 0) roots → (r : ℕ) → Met nodes shape roots r → (c : ℕ) → c < get_or shape (node nodes r).level 0 → (s : ℕ) → branch nodes r c ≡ Record s
+  all_closed : (roots : List Link) → AllByRecursion (Fit k nodes Live 0) roots → (r : ℕ) → Met nodes shape roots r → (c : ℕ) → c < get_or shape (node nodes r).level 0 → (s : ℕ) → branch nodes r c ≡ Record s
       → Met nodes shape roots s
   all_closed [] a r h c i s b = absurd (both_ways false refl h)
   all_closed (l ∷ ls) a r h c i s b =
@@ -129,11 +129,11 @@ module _ (k : ℕ) (shape : List ℕ) (nodes : List Node) (Live : ℕ → Type 0
       (has_cases eqb r (met nodes 0 shape l) (flat_map (met nodes 0 shape) ls) h)
 
   -- what is met is live, for links lead to live records
-  pub met_is_live : (roots : List Link) → All (Fit k nodes Live 0) roots → (r : ℕ) → Met nodes shape roots r → Live r
+  pub met_is_live : (roots : List Link) → AllByRecursion (Fit k nodes Live 0) roots → (r : ℕ) → Met nodes shape roots r → Live r
   met_is_live roots a r h = all_member eqb Live eqb-true r (flat_map (met nodes 0 shape) roots) h (all_met_live k shape nodes Live sound roots a)
 
   -- the record of a root is met from it
-  root_met : (roots : List Link) → All (Fit k nodes Live 0) roots → (i r : ℕ) → i < length roots → get_or roots i (Decision 0) ≡ Record r → Met nodes shape roots r
+  root_met : (roots : List Link) → AllByRecursion (Fit k nodes Live 0) roots → (i r : ℕ) → i < length roots → get_or roots i (Decision 0) ≡ Record r → Met nodes shape roots r
   root_met [] a i r h e = absurd (omega arith)
   root_met (l ∷ ls) a zero r h e =
       has_left eqb r (met nodes 0 shape l) (flat_map (met nodes 0 shape) ls)
@@ -141,12 +141,12 @@ module _ (k : ℕ) (shape : List ℕ) (nodes : List Node) (Live : ℕ → Type 0
   root_met (l ∷ ls) a (suc i) r h e = has_right eqb r (met nodes 0 shape l) (flat_map (met nodes 0 shape) ls) (root_met ls a.1 i r (omega arith) e)
 
   -- what is met from roots is closed, so it is sound, and nothing is owed when another root goes
-  pub met_sound : (roots : List Link) → All (Fit k nodes Live 0) roots → Sound k shape nodes (Met nodes shape roots)
+  pub met_sound : (roots : List Link) → AllByRecursion (Fit k nodes Live 0) roots → Sound k shape nodes (Met nodes shape roots)
   met_sound roots a =
       closed_sound k shape nodes Live sound (Met nodes shape roots) (met_is_live roots a) (λ r h c i s e _. all_closed roots a r h c i s e)
 
   -- the roots may stand on what is met from them
-  pub met_fits : (roots : List Link) → All (Fit k nodes Live 0) roots → All (Fit k nodes (Met nodes shape roots) 0) roots
+  pub met_fits : (roots : List Link) → AllByRecursion (Fit k nodes Live 0) roots → AllByRecursion (Fit k nodes (Met nodes shape roots) 0) roots
   met_fits roots a = fits_sub k shape nodes Live sound (Met nodes shape roots) roots a (λ i r h e _. root_met roots a i r h e)
 
 -- ---- other node memory, and more live records

@@ -1,6 +1,6 @@
 -- What links denote: lengths, canonicity, parts and sizes, and the frame.
 use Rattle.std.proofs.Common.{◌≡◌, ℕ, suc, ◌<◌, ◌≤◌, true, false, cond, eqb, List, [], ◌∷◌, ◌++◌, map, length, get_or, drop, set, sym, refl, ap, ◌∙◌, subst, ap₂, ⊎_elim, arith}
-use Rattle.std.specs.List.{flat_map, AllByRecursion as All}
+use Rattle.std.specs.List.{flat_map, AllByRecursion}
 use Rattle.std.proofs.lemmas.List.{map-append, get_or-set_other}
 use Rattle.std.proofs.ByRecursion.{All-append}
 use Rattle.std.proofs.lemmas.Bool.{eqb-true, eqb-false, eq-eqb, cases_Bool, cases_lt, cond-true, cond-false}
@@ -172,12 +172,12 @@ module _ (k : ℕ) (shape : List ℕ) (nodes : List Node) (Live : ℕ → Type 0
         (Decides-eqb r s)
 
   -- what is met is live
-  record_live : (j : ℕ) (l : Link) → Fit k nodes Live j l → All Live (record_at nodes j l)
+  record_live : (j : ℕ) (l : Link) → Fit k nodes Live j l → AllByRecursion Live (record_at nodes j l)
   record_live j (Decision d) f = tt
-  record_live j (Record r) f = elim (eqb (node nodes r).level j) as (λ b. All Live (only_if b r)) [ true ↦ (f.0, tt) | false ↦ tt ]
+  record_live j (Record r) f = elim (eqb (node nodes r).level j) as (λ b. AllByRecursion Live (only_if b r)) [ true ↦ (f.0, tt) | false ↦ tt ]
 
   -- what is met further on is live, for branches lead to live records
-  pub met_live : (j : ℕ) (ns : List ℕ) → drop j shape ≡ ns → (l : Link) → Fit k nodes Live j l → All Live (met nodes j ns l)
+  pub met_live : (j : ℕ) (ns : List ℕ) → drop j shape ≡ ns → (l : Link) → Fit k nodes Live j l → AllByRecursion Live (met nodes j ns l)
   met_live j [] e l f = tt
   met_live j (n ∷ ns) e l f =
       let s = drop-step shape j n ns e in
@@ -186,20 +186,20 @@ module _ (k : ℕ) (shape : List ℕ) (nodes : List Node) (Live : ℕ → Type 0
       (λ c i. met_live (suc j) ns s.2 (next nodes j l c) (next_fit j n s.1 l f c i)))
 
   -- the same from several roots
-  pub all_met_live : (roots : List Link) → All (Fit k nodes Live 0) roots → All Live (flat_map (met nodes 0 shape) roots)
+  pub all_met_live : (roots : List Link) → AllByRecursion (Fit k nodes Live 0) roots → AllByRecursion Live (flat_map (met nodes 0 shape) roots)
   all_met_live [] a = tt
   all_met_live (l ∷ ls) a = All-append Live (met nodes 0 shape l) (flat_map (met nodes 0 shape) ls) (met_live 0 shape refl l a.0) (all_met_live ls a.1)
 
   module _ (filled : Filled shape) where
     -- the same from several roots, one after the other
-    pub all_parts-met : (roots : List Link) → All (Fit k nodes Live 0) roots
+    pub all_parts-met : (roots : List Link) → AllByRecursion (Fit k nodes Live 0) roots
         → flat_map (parts 0 shape) (map (page nodes 0 shape) roots) ≡ map (part nodes shape) (flat_map (met nodes 0 shape) roots)
     all_parts-met [] a = refl
     all_parts-met (l ∷ ls) a =
         ap₂ ◌++◌ (parts-met filled 0 shape refl l a.0) (all_parts-met ls a.1) ∙ sym (map-append (part nodes shape) (met nodes 0 shape l) (flat_map (met nodes 0 shape) ls))
 
     -- the size of policies together is the number of records met from their roots
-    pub size-met : (roots : List Link) → All (Fit k nodes Live 0) roots
+    pub size-met : (roots : List Link) → AllByRecursion (Fit k nodes Live 0) roots
         → size shape (map (page nodes 0 shape) roots) ≡ count eqb (flat_map (met nodes 0 shape) roots)
     size-met roots a =
         ap (count same) (all_parts-met roots a)

@@ -1,6 +1,6 @@
 -- Closed marks are on just what is met, and their number is the size.
 use Rattle.std.proofs.Common.{◌≡◌, ℕ, zero, suc, ◌<◌, ◌≤◌, Bool, true, false, cond, ◌||◌, eqb, List, [], ◌∷◌, map, length, get_or, refl, subst, ap₂, ⊎_elim, arith}
-use Rattle.std.specs.List.{flat_map, AllByRecursion as All}
+use Rattle.std.specs.List.{flat_map, AllByRecursion}
 use Rattle.std.proofs.ByRecursion.{All-weaker}
 use Rattle.std.proofs.lemmas.Bool.{both_ways, eqb-true, eq-eqb, cases_Bool, cases_lt, or_left, or_right}
 use Rattle.std.proofs.lemmas.Bool.Decides.{Decides-eqb}
@@ -43,12 +43,12 @@ count_picked (suc n) marks =
     [ true ↦ ap₂ (λ b m. cond b m (suc m)) (not_picked n n marks (omega arith)) (count_picked n marks) | false ↦ count_picked n marks ]
 
 -- each is marked
-picked_marked : (n : ℕ) (marks : List ℕ) → All (Marked marks) (picked n marks)
+picked_marked : (n : ℕ) (marks : List ℕ) → AllByRecursion (Marked marks) (picked n marks)
 unfolding picked
 picked_marked zero marks = tt
 picked_marked (suc n) marks = go (eqb (get_or marks n 0) 1) refl (picked_marked n marks)
   where
-    go : (b : Bool) → eqb (get_or marks n 0) 1 ≡ b → All (Marked marks) (picked n marks) → All (Marked marks) (cond b (n ∷ picked n marks) (picked n marks))
+    go : (b : Bool) → eqb (get_or marks n 0) 1 ≡ b → AllByRecursion (Marked marks) (picked n marks) → AllByRecursion (Marked marks) (cond b (n ∷ picked n marks) (picked n marks))
     go true e i = (eqb-true (get_or marks n 0) 1 e, i)
     go false e i = i
 
@@ -77,7 +77,7 @@ module _ (k : ℕ) (shape : List ℕ) (nodes : List Node) (Live : ℕ → Type 0
   Both r = Live r × Has r
 
   -- the live records in it are sound, and what is met from roots that stand on them is among them
-  pub met_in : (roots : List Link) → All (Fit k nodes Live 0) roots → ((i r : ℕ) → i < length roots → get_or roots i (Decision 0) ≡ Record r → Has r) → All Has (flat_map (met nodes 0 shape) roots)
+  pub met_in : (roots : List Link) → AllByRecursion (Fit k nodes Live 0) roots → ((i r : ℕ) → i < length roots → get_or roots i (Decision 0) ≡ Record r → Has r) → AllByRecursion Has (flat_map (met nodes 0 shape) roots)
   met_in roots a h =
       All-weaker Both Has (λ r v. v.1) (flat_map (met nodes 0 shape) roots)
       (all_met_live k shape nodes Both
@@ -85,10 +85,10 @@ module _ (k : ℕ) (shape : List ℕ) (nodes : List Node) (Live : ℕ → Type 0
       (fits_sub k shape nodes Live sound Both roots a (λ i r b e live. (live, h i r b e))))
 
 -- ---- marking bytes that are closed
-module _ (k : ℕ) (shape : List ℕ) (nodes : List Node) (Live : ℕ → Type 0) (sound : Sound k shape nodes Live) (filled : Filled shape) (roots : List Link) (fits : All (Fit k nodes Live 0) roots)
+module _ (k : ℕ) (shape : List ℕ) (nodes : List Node) (Live : ℕ → Type 0) (sound : Sound k shape nodes Live) (filled : Filled shape) (roots : List Link) (fits : AllByRecursion (Fit k nodes Live 0) roots)
     (marks : List ℕ) (h : Closed shape nodes roots marks) where
   -- what is met is marked, for the marks have the roots and are closed
-  met_marked : All (Marked marks) (flat_map (met nodes 0 shape) roots)
+  met_marked : AllByRecursion (Marked marks) (flat_map (met nodes 0 shape) roots)
   met_marked = met_in k shape nodes Live sound (Marked marks) h.what_they_lead_to_is_marked roots fits h.roots_are_marked
 
   -- so a record that is met is marked
@@ -107,7 +107,7 @@ module _ (k : ℕ) (shape : List ℕ) (nodes : List Node) (Live : ℕ → Type 0
       in
       omega arith
     where
-      inside : (rs : List ℕ) → All (Marked marks) rs → All Live rs → All (λ r. has eqb r (picked (length nodes) marks) ≡ true) rs
+      inside : (rs : List ℕ) → AllByRecursion (Marked marks) rs → AllByRecursion Live rs → AllByRecursion (λ r. has eqb r (picked (length nodes) marks) ≡ true) rs
       inside [] a b = tt
       inside (r ∷ rs) a b = (has_picked (length nodes) r marks (sound.in_memory r b.0) a.0, inside rs a.1 b.1)
 

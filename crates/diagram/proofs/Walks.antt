@@ -1,7 +1,7 @@
 -- Pages of links as pages of walks, and operators on them.
 use Rattle.std.proofs.Common.{◌≡◌, ℕ, zero, suc, ◌+◌, ◌*◌, ◌<◌, ◌≤◌, List, [], ◌∷◌, ◌++◌, map, length, get_or, drop, replicate, sym, refl, ap, ◌∙◌, suc-mul, zero-mul, arith}
 use lib.ListN.{replicate-append-replicate}
-use Rattle.std.specs.List.{AllByRecursion as All}
+use Rattle.std.specs.List.{AllByRecursion}
 use Rattle.vocabulary.specs.Grid.{grid, number, Cells}
 use Rattle.pages.specs.Pages.{runs, paged}
 use Rattle.pages.specs.Operators.{combined}
@@ -85,7 +85,7 @@ module _ (k : ℕ) (shape : List ℕ) (nodes : List Node) (Live : ℕ → Type 0
       walk-below (suc j) ns s.2 (next nodes j l c) (next_fit k shape nodes Live sound j n s.1 l f c h.0) cs h.1
 
   -- and so each decision of the page
-  pub page-below : (j : ℕ) (ns : List ℕ) → drop j shape ≡ ns → (l : Link) → Fit k nodes Live j l → All (λ d. d < k) (page nodes j ns l)
+  pub page-below : (j : ℕ) (ns : List ℕ) → drop j shape ≡ ns → (l : Link) → Fit k nodes Live j l → AllByRecursion (λ d. d < k) (page nodes j ns l)
   page-below j [] e l f = (ends_in_code j (drop_end shape j e) l f, tt)
   page-below j (n ∷ ns) e l f =
       let s = drop-step shape j n ns e in

@@ -1,6 +1,6 @@
 -- What stays of a sound set of records when node memory or the set changes.
 use Rattle.std.specs.Prelude.{◌≡◌, ℕ, ◌<◌, ◌≤◌, Bool, true, false, ◌⊎◌, List, length, drop, slice_set}
-use Rattle.std.specs.List.{AllByRecursion as All}
+use Rattle.std.specs.List.{AllByRecursion}
 use Rattle.diagram.specs.declared.Node.{Node}
 use Rattle.diagram.specs.declared.Link.{Link}
 use Rattle.diagram.specs.Diagram.{node, page, met, part}
@@ -31,12 +31,12 @@ OtherRecordsMayBeWritten = OfEverySoundSet λ k shape nodes Live. (r : ℕ) (x :
 pub record ReachedFrom (roots : List Link) (k : ℕ) (shape : List ℕ) (nodes : List Node) (Live : ℕ → Type 0) : Type 0 where
   pub only_live_records : (r : ℕ) → Met nodes shape roots r → Live r
   pub sound_by_itself : Sound k shape nodes (Met nodes shape roots)
-  pub roots_stand_on_it : All (Fit k nodes (Met nodes shape roots) 0) roots
+  pub roots_stand_on_it : AllByRecursion (Fit k nodes (Met nodes shape roots) 0) roots
 
 -- so roots may go, and what the others reach is sound
 abbrev pub WhatRootsReachIsSound : Type 0
 WhatRootsReachIsSound =
-    OfEverySoundSet λ k shape nodes Live. (roots : List Link) → All (Fit k nodes Live 0) roots → ReachedFrom roots k shape nodes Live
+    OfEverySoundSet λ k shape nodes Live. (roots : List Link) → AllByRecursion (Fit k nodes Live 0) roots → ReachedFrom roots k shape nodes Live
 
 -- a proper record that is like no live one may be put in the place of one that is not live, and be live
 abbrev pub OneMoreRecordIsSound : Type 0

@@ -1,6 +1,6 @@
 -- Marking bytes, one a record.
 use Rattle.std.specs.Prelude.{◌≡◌, ℕ, ◌<◌, List, map, length, slice_index, slice_index_or}
-use Rattle.std.specs.List.{AllByRecursion as All}
+use Rattle.std.specs.List.{AllByRecursion}
 use Rattle.marking.specs.Marks.{Marked, tally}
 use Rattle.pages.specs.Sizes.{size}
 use Rattle.diagram.specs.declared.Node.{Node}
@@ -24,4 +24,4 @@ pub record CountedByMarks (shape : List ℕ) (nodes : List Node) (roots : List L
 abbrev pub ClosedMarksCountTheSize : Type 0
 ClosedMarksCountTheSize =
     OfEverySoundSet λ k shape nodes Live.
-    (roots : List Link) → All (Fit k nodes Live 0) roots → (marks : List ℕ) → Closed shape nodes roots marks → CountedByMarks shape nodes roots marks
+    (roots : List Link) → AllByRecursion (Fit k nodes Live 0) roots → (marks : List ℕ) → Closed shape nodes roots marks → CountedByMarks shape nodes roots marks

@@ -1,7 +1,7 @@
 -- What makes a sound set of records reduced and shared: one link for a page, one record for a part.
 use Rattle.std.specs.Prelude.{◌≡◌, ℕ, ◌<◌, ◌≤◌, true, ◌≢◌, List, map, length, drop, nat_eq}
 use mathlib.Core.List.{Memᴰ}
-use Rattle.std.specs.List.{flat_map, AllByRecursion as All}
+use Rattle.std.specs.List.{flat_map, AllByRecursion}
 use Rattle.vocabulary.specs.Grid.{Cells}
 use Rattle.pages.specs.Parts.{Part, same, Branching, has}
 use Rattle.pages.specs.Sizes.{count, parts_of, size}
@@ -25,7 +25,7 @@ RootsThatDecideAlikeAreOneLink =
 -- a root decides by codes: each walk, and so each decision of its page, is below k
 pub record DecidesByCodes (k : ℕ) (shape : List ℕ) (nodes : List Node) (l : Link) : Type 0 where
   pub walks_end_in_codes : (cells : List ℕ) → Cells shape cells → walk nodes 0 cells l < k
-  pub page_has_codes : All (λ d. d < k) (page nodes 0 shape l)
+  pub page_has_codes : AllByRecursion (λ d. d < k) (page nodes 0 shape l)
 
 -- every root on a sound set decides by codes
 abbrev pub RootsDecideByCodes : Type 0
@@ -40,7 +40,7 @@ pub record HeldByRecords (shape : List ℕ) (nodes : List Node) (Live : ℕ → 
 
 -- records met hold just the branching parts
 abbrev pub RecordsHoldTheBranchingParts : Type 0
-RecordsHoldTheBranchingParts = OfEverySoundSet λ k shape nodes Live. (roots : List Link) → All (Fit k nodes Live 0) roots → HeldByRecords shape nodes Live roots
+RecordsHoldTheBranchingParts = OfEverySoundSet λ k shape nodes Live. (roots : List Link) → AllByRecursion (Fit k nodes Live 0) roots → HeldByRecords shape nodes Live roots
 
 -- distinct live records hold distinct parts
 abbrev pub NoTwoRecordsHoldOnePart : Type 0
@@ -54,7 +54,7 @@ pub record SizedByRecords (shape : List ℕ) (nodes : List Node) (roots : List L
 -- sizes count records
 abbrev pub SizesCountRecords : Type 0
 SizesCountRecords =
-    OfEverySoundSet λ k shape nodes Live. (roots : List Link) → All (Fit k nodes Live 0) roots → SizedByRecords shape nodes roots
+    OfEverySoundSet λ k shape nodes Live. (roots : List Link) → AllByRecursion (Fit k nodes Live 0) roots → SizedByRecords shape nodes roots
 
 -- where all records are live and hold parts of ps, and ps has one part more, its distinct parts outnumber the records
 abbrev pub FullMemoryLacksCapacity : Type 0

@@ -1,6 +1,6 @@
 -- Names: when two are the same, what a name is made of, and the name before the sign '='.
 use Rattle.std.proofs.Common.{◌≡◌, ℕ, suc, ◌<◌, ◌≤◌, Bool, true, false, cond, ◌&&◌, ◌||◌, eqb, ltb, leb, List, [], ◌∷◌, ◌++◌, length, take, drop, Some, None, Decides, Option, refl, ap, ◌∙◌, subst, ap₂, ⊎_elim, arith, length-append}
-use Rattle.std.specs.List.{AllByRecursion as All}
+use Rattle.std.specs.List.{AllByRecursion}
 use Rattle.std.proofs.lemmas.List.{take_at}
 use Rattle.std.proofs.lemmas.Bool.{both_ways, and_parts, and_from, or_cases, eqb-true, eq-eqb, leb-true, ltb-true, lt-ltb, cases_Bool, cond-true, cond-false}
 use Rattle.fields.specs.Words.{name_byte, name_bytes, is_name, equal, before, sides}
@@ -43,7 +43,7 @@ name_byte_below b h =
     (or_cases (leb 97 b && leb b 122) ((leb 48 b && leb b 57) || eqb b 45) h)
 
 -- so a name is made of bytes
-pub name_octets : (n : List ℕ) → name_bytes n ≡ true → All (λ b. b < 256) n
+pub name_octets : (n : List ℕ) → name_bytes n ≡ true → AllByRecursion (λ b. b < 256) n
 name_octets [] h = tt
 name_octets (b ∷ n) h = let p = and_parts (name_byte b) (name_bytes n) h in let l = name_byte_below b p.0 in (omega arith, name_octets n p.1)
 

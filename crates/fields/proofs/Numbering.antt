@@ -2,7 +2,7 @@
 use Rattle.std.proofs.Common.{◌≡◌, ℕ, zero, suc, ◌+◌, ◌-◌, ◌*◌, ◌/◌, ◌%◌, ◌^◌, ◌<◌, Bool, true, false, ltb, List, [], ◌∷◌, ◌++◌, length, get_or, ℤ, pos, negsuc, refl, ap, ◌∙◌, ⊎_elim, arith, w32, SFits, to_z, of_z}
 use mir.Val.{sel}
 use lib.Signed.{lt_z}
-use Rattle.std.specs.List.{AllByRecursion as All}
+use Rattle.std.specs.List.{AllByRecursion}
 use Rattle.std.proofs.ByRecursion.{All-get_or, All-weaker}
 use Rattle.std.proofs.lemmas.Int.{to_z-of_z}
 use Rattle.std.proofs.lemmas.Bool.{both_ways, and_parts, ltb-true, ltb-false, lt-ltb, cases_Bool}
@@ -30,7 +30,7 @@ pub number_fits : (bs : List ℕ) → SFits w32 (number_of bs)
 number_fits bs = to_z_fits (get_or bs 0 0 * 16777216 + get_or bs 1 0 * 65536 + get_or bs 2 0 * 256 + get_or bs 3 0)
 
 -- and each of the numbers that stand one after the other
-pub numbers_fit : (bs : List ℕ) → All (SFits w32) (numbers_of bs)
+pub numbers_fit : (bs : List ℕ) → AllByRecursion (SFits w32) (numbers_of bs)
 numbers_fit [] = tt
 numbers_fit (a ∷ []) = tt
 numbers_fit (a ∷ b ∷ []) = tt
@@ -51,7 +51,7 @@ bits_below (pos n) f = let h = f.sfits in omega arith
 bits_below (negsuc n) f = let h = f.sfits in omega arith
 
 -- so the bytes of a number are bytes
-pub number_octets : (z : ℤ) → SFits w32 z → All (λ b. b < 256) (number_bytes z)
+pub number_octets : (z : ℤ) → SFits w32 z → AllByRecursion (λ b. b < 256) (number_bytes z)
 number_octets z f = let h = bits_below z f in (omega arith, (omega arith, (omega arith, (omega arith, tt))))
 
 -- ---- order
@@ -81,7 +81,7 @@ rises-rest x [] r = refl
 rises-rest x (y ∷ zs) r = (and_parts (lt_z x y) (rises (y ∷ zs)) r).1
 
 -- the first is below all that follow, by transitivity
-pub rises_above : (x : ℤ) (zs : List ℤ) → rises (x ∷ zs) ≡ true → All (λ y. lt_z x y ≡ true) zs
+pub rises_above : (x : ℤ) (zs : List ℤ) → rises (x ∷ zs) ≡ true → AllByRecursion (λ y. lt_z x y ≡ true) zs
 rises_above x [] r = tt
 rises_above x (y ∷ zs) r =
     let p = and_parts (lt_z x y) (rises (y ∷ zs)) r in

@@ -1,6 +1,6 @@
 -- What fields say: what is said is well formed, it does not hang on the place, and fields that are written say what was written.
 use Rattle.std.proofs.Common.{◌≡◌, ℕ, ◌%◌, ◌≤◌, Bool, true, false, cond, ◌&&◌, ◌||◌, eqb, leb, List, [], ◌∷◌, ◌++◌, length, get_or, drop, ℤ, Some, Ok, Option, refl, ap, ◌∙◌, subst, ap₂, arith, length-append, w32, SFits}
-use Rattle.std.specs.List.{AllByRecursion as All}
+use Rattle.std.specs.List.{AllByRecursion}
 use Rattle.std.proofs.lemmas.Bool.{and_parts, and_from, leb-true, le-leb, cond-true}
 use Rattle.refusal.specs.Answers.{Answer, refuse, and_then, given}
 use Rattle.fields.specs.Words.{is_name, number_of, number_bytes, numbers_of, rises, sides}
@@ -36,7 +36,7 @@ between_of low high c p q = and_from (leb low (length c)) (leb (length c) high) 
 abbrev pub WellSaid : Said → Type 0
 WellSaid (attribute n) = is_name n ≡ true
 WellSaid (value n) = is_name n ≡ true
-WellSaid (cuts zs) = (2 ≤ length zs) × (length zs ≤ 17) × All (SFits w32) zs × (rises zs ≡ true)
+WellSaid (cuts zs) = (2 ≤ length zs) × (length zs ≤ 17) × AllByRecursion (SFits w32) zs × (rises zs ≡ true)
 WellSaid (way b) = (1 ≤ b) × (b ≤ 4)
 WellSaid (rule b) = Unit {0}
 WellSaid (choice a w) = (is_name a ≡ true) × (is_name w ≡ true)

@@ -1,6 +1,6 @@
 -- Pairs of links under an operator are places.
 use Rattle.std.proofs.Common.{◌≡◌, ℕ, suc, ◌<◌, ◌≤◌, min, Bool, true, false, cond, List, [], ◌∷◌, map, length, get_or, drop, replicate, sym, refl, ap, ◌∙◌, subst, ap₂, inl, arith, drop-cons}
-use Rattle.std.specs.List.{AllByRecursion as All}
+use Rattle.std.specs.List.{AllByRecursion}
 use Rattle.std.proofs.lemmas.Bool.{both_ways}
 use Rattle.algebra.specs.Tables.{Tables}
 use Rattle.algebra.specs.Laws.{ShortCutLaws}
@@ -46,17 +46,17 @@ map_lost (x ∷ p) = ap (λ (r : List ℕ). 0 ∷ r) (map_lost p)
 
 module _ (f : ℕ → ℕ → ℕ) (h : ℕ → ℕ) (k : ℕ) where
   -- a page with itself, decision by decision
-  combined_self : ((a : ℕ) → a < k → f a a ≡ h a) → (p : List ℕ) → All (λ d. d < k) p → combined f p p ≡ map h p
+  combined_self : ((a : ℕ) → a < k → f a a ≡ h a) → (p : List ℕ) → AllByRecursion (λ d. d < k) p → combined f p p ≡ map h p
   combined_self e [] b = refl
   combined_self e (x ∷ p) b = ap₂ (λ (y : ℕ) (r : List ℕ). y ∷ r) (e x b.0) (combined_self e p b.1)
 
   -- a page with 0 on its left
-  combined-left : ((b : ℕ) → b < k → f 0 b ≡ h b) → (q : List ℕ) → All (λ d. d < k) q → combined f (replicate (length q) 0) q ≡ map h q
+  combined-left : ((b : ℕ) → b < k → f 0 b ≡ h b) → (q : List ℕ) → AllByRecursion (λ d. d < k) q → combined f (replicate (length q) 0) q ≡ map h q
   combined-left e [] b = refl
   combined-left e (x ∷ q) b = ap₂ (λ (y : ℕ) (r : List ℕ). y ∷ r) (e x b.0) (combined-left e q b.1)
 
   -- a page with 0 on its right
-  combined-right : ((a : ℕ) → a < k → f a 0 ≡ h a) → (p : List ℕ) → All (λ d. d < k) p → combined f p (replicate (length p) 0) ≡ map h p
+  combined-right : ((a : ℕ) → a < k → f a 0 ≡ h a) → (p : List ℕ) → AllByRecursion (λ d. d < k) p → combined f p (replicate (length p) 0) ≡ map h p
   combined-right e [] b = refl
   combined-right e (x ∷ p) b = ap₂ (λ (y : ℕ) (r : List ℕ). y ∷ r) (e x b.0) (combined-right e p b.1)
 

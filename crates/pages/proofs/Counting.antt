@@ -1,6 +1,6 @@
 -- How many distinct elements lists have.
 use Rattle.std.proofs.Common.{◌≡◌, ℕ, zero, suc, ◌<◌, ◌≤◌, Bool, true, false, cond, ◌||◌, eqb, List, [], ◌∷◌, map, Decides, sym, refl, ap, ◌∙◌, subst, ap₂, ⊎_elim, arith}
-use Rattle.std.specs.List.{AllByRecursion as All}
+use Rattle.std.specs.List.{AllByRecursion}
 use Rattle.std.proofs.lemmas.Bool.{both_ways, or_parts, or_left, or_right, eq-eqb, ne_eqb, cases_Bool, cases_eq}
 use Rattle.std.proofs.lemmas.Bool.Decides.{Decides-eqb}
 use Rattle.pages.specs.Parts.{has}
@@ -54,17 +54,17 @@ module _ {X : Type 0} (eq : X → X → Bool) where
             step false = refl
 
     -- a list all of whose elements are in another has no more distinct ones
-    pub count-within : (xs ys : List X) → All (λ x. has eq x ys ≡ true) xs → count eq xs ≤ count eq ys
+    pub count-within : (xs ys : List X) → AllByRecursion (λ x. has eq x ys ≡ true) xs → count eq xs ≤ count eq ys
     count-within [] ys a = omega arith
     count-within (x ∷ xs) ys a = go (has eq x xs) refl (count-within xs)
       where
-        kept : (zs : List X) → has eq x zs ≡ false → All (λ z. has eq z ys ≡ true) zs → All (λ z. has eq z (remove x ys) ≡ true) zs
+        kept : (zs : List X) → has eq x zs ≡ false → AllByRecursion (λ z. has eq z ys ≡ true) zs → AllByRecursion (λ z. has eq z (remove x ys) ≡ true) zs
         kept [] h t = tt
         kept (z ∷ zs) h t =
             let o = or_parts (eq x z) (has eq x zs) h in
             (has-remove z x ys (apart_turned x z o.0) ∙ t.0, kept zs o.1 t.1)
 
-        go : (b : Bool) → has eq x xs ≡ b → ((zs : List X) → All (λ x. has eq x zs ≡ true) xs → count eq xs ≤ count eq zs) → cond b (count eq xs) (suc (count eq xs)) ≤ count eq ys
+        go : (b : Bool) → has eq x xs ≡ b → ((zs : List X) → AllByRecursion (λ x. has eq x zs ≡ true) xs → count eq xs ≤ count eq zs) → cond b (count eq xs) (suc (count eq xs)) ≤ count eq ys
         go true e i = i ys a.1
         go false e i =
             let i : count eq xs ≤ count eq (remove x ys) = i (remove x ys) (kept xs e a.1) in
@@ -93,34 +93,34 @@ count-below zero = refl
 count-below (suc n) = ap₂ (λ b m. cond b m (suc m)) (not_below n n (omega arith)) (count-below n)
 
 -- what holds below n holds of all that are listed
-pub all_below : (P : ℕ → Type 0) (n : ℕ) → ((r : ℕ) → r < n → P r) → All P (below n)
+pub all_below : (P : ℕ → Type 0) (n : ℕ) → ((r : ℕ) → r < n → P r) → AllByRecursion P (below n)
 all_below P zero h = tt
 all_below P (suc n) h = (h n (omega arith), all_below P n (λ r l. h r (omega arith)))
 
 -- distinct numbers below n are at most n
-pub count-limited : (n : ℕ) (xs : List ℕ) → All (λ r. r < n) xs → count eqb xs ≤ n
+pub count-limited : (n : ℕ) (xs : List ℕ) → AllByRecursion (λ r. r < n) xs → count eqb xs ≤ n
 count-limited n xs a =
     let h : count eqb xs ≤ count eqb (below n) = count-within eqb Decides-eqb xs (below n) (members xs a) in
     let e : count eqb (below n) ≡ n = count-below n in
     omega arith
   where
-    members : (ys : List ℕ) → All (λ r. r < n) ys → All (λ r. has eqb r (below n) ≡ true) ys
+    members : (ys : List ℕ) → AllByRecursion (λ r. r < n) ys → AllByRecursion (λ r. has eqb r (below n) ≡ true) ys
     members [] t = tt
     members (y ∷ ys) t = (has-below n y t.0, members ys t.1)
 
 -- ---- images
 module _ {X Y : Type 0} (eq : X → X → Bool) (eq' : Y → Y → Bool) (f : X → Y) where
   -- a function that keeps apart what the tests keep apart keeps membership
-  pub has-map : (x : X) (xs : List X) → All (λ y. eq' (f x) (f y) ≡ eq x y) xs → has eq' (f x) (map f xs) ≡ has eq x xs
+  pub has-map : (x : X) (xs : List X) → AllByRecursion (λ y. eq' (f x) (f y) ≡ eq x y) xs → has eq' (f x) (map f xs) ≡ has eq x xs
   has-map x [] h = refl
   has-map x (y ∷ ys) h = ap₂ ◌||◌ h.0 (has-map x ys h.1)
 
   -- and so the number of distinct elements
-  pub count_map : (P : X → Type 0) → ((x y : X) → P x → P y → eq' (f x) (f y) ≡ eq x y) → (xs : List X) → All P xs → count eq' (map f xs) ≡ count eq xs
+  pub count_map : (P : X → Type 0) → ((x y : X) → P x → P y → eq' (f x) (f y) ≡ eq x y) → (xs : List X) → AllByRecursion P xs → count eq' (map f xs) ≡ count eq xs
   count_map P h [] a = refl
   count_map P h (x ∷ xs) a =
       ap₂ (λ b n. cond b n (suc n)) (has-map x xs (weaker xs a.1)) (count_map P h xs a.1)
     where
-      weaker : (ys : List X) → All P ys → All (λ y. eq' (f x) (f y) ≡ eq x y) ys
+      weaker : (ys : List X) → AllByRecursion P ys → AllByRecursion (λ y. eq' (f x) (f y) ≡ eq x y) ys
       weaker [] t = tt
       weaker (y ∷ ys) t = (h x y a.0 t.0, weaker ys t.1)

@@ -1,6 +1,6 @@
 -- Members of lists, by a test: in lists put together, in runs, in images.
 use Rattle.std.proofs.Common.{◌≡◌, ℕ, zero, suc, ◌<◌, Bool, true, false, ◌||◌, ◌⊎◌, List, [], ◌∷◌, ◌++◌, map, sym, refl, subst, inl, inr, ⊎_elim, arith}
-use Rattle.std.specs.List.{AllByRecursion as All}
+use Rattle.std.specs.List.{AllByRecursion}
 use Rattle.std.proofs.ByRecursion.{All-weaker}
 use Rattle.std.proofs.lemmas.Bool.{both_ways, or_cases, or_left, or_right}
 use Rattle.pages.specs.Pages.{runs}
@@ -8,7 +8,7 @@ use Rattle.pages.specs.Parts.{has}
 
 module _ {X : Type 0} (eq : X → X → Bool) where
   -- a member has what all members have, for the test finds it only where it is
-  pub all_member : (P : X → Type 0) → ((x y : X) → eq x y ≡ true → x ≡ y) → (x : X) (xs : List X) → has eq x xs ≡ true → All P xs → P x
+  pub all_member : (P : X → Type 0) → ((x y : X) → eq x y ≡ true → x ≡ y) → (x : X) (xs : List X) → has eq x xs ≡ true → AllByRecursion P xs → P x
   all_member P law x [] h a = absurd (both_ways false refl h)
   all_member P law x (y ∷ ys) h a = ⊎_elim (λ t. subst P (sym (law x y t)) a.0) (λ t. all_member P law x ys t a.1) (or_cases (eq x y) (has eq x ys) h)
 
@@ -43,7 +43,7 @@ module _ {X : Type 0} (eq : X → X → Bool) where
       (has_cases x (f 0) (runs n (λ c. f (suc c))) h)
 
 -- each element is a member, for the test holds of it and itself
-pub all_members : {X : Type 0} (eq : X → X → Bool) → ((x : X) → eq x x ≡ true) → (xs : List X) → All (λ x. has eq x xs ≡ true) xs
+pub all_members : {X : Type 0} (eq : X → X → Bool) → ((x : X) → eq x x ≡ true) → (xs : List X) → AllByRecursion (λ x. has eq x xs ≡ true) xs
 all_members eq law [] = tt
 all_members eq law (x ∷ xs) = (
   or_left (eq x x) (has eq x xs) (law x),
@@ -59,7 +59,7 @@ has_image eq eq' law law' f x (y ∷ ys) h =
     (λ t. or_right (eq' (f x) (f y)) (has eq' (f x) (map f ys)) (has_image eq eq' law law' f x ys t)) (or_cases (eq x y) (has eq x ys) h)
 
 -- a member of an image is the image of a member
-pub from-map : {X Y : Type 0} (eq : Y → Y → Bool) → ((x y : Y) → eq x y ≡ true → x ≡ y) → (P : X → Type 0) (f : X → Y) (q : Y) (xs : List X) → All P xs → has eq q (map f xs) ≡ true
+pub from-map : {X Y : Type 0} (eq : Y → Y → Bool) → ((x y : Y) → eq x y ≡ true → x ≡ y) → (P : X → Type 0) (f : X → Y) (q : Y) (xs : List X) → AllByRecursion P xs → has eq q (map f xs) ≡ true
     → (r : X) × P r × (f r ≡ q)
 from-map eq law P f q [] a h = absurd (both_ways false refl h)
 from-map eq law P f q (x ∷ xs) a h =

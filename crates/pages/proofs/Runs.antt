@@ -1,6 +1,6 @@
 -- Lists made by `runs`: their length, their chunks, and that they are made of one another only piece by piece.
 use Rattle.std.proofs.Common.{◌≡◌, ℕ, zero, suc, ◌+◌, ◌-◌, ◌*◌, ◌<◌, ◌≤◌, List, [], ◌∷◌, ◌++◌, map, length, get_or, take, drop, sym, refl, ap, ◌∙◌, ap₂, suc-mul, zero-mul, arith, length-append}
-use Rattle.std.specs.List.{AllByRecursion as All}
+use Rattle.std.specs.List.{AllByRecursion}
 use Rattle.std.proofs.ByRecursion.{All-append}
 use Rattle.std.proofs.lemmas.List.{take_at, drop_at, drop-drop, map-append, get_or_append_left, get_or-append_right}
 use Rattle.pages.specs.Pages.{runs, chunk}
@@ -56,7 +56,7 @@ module _ {X : Type 0} where
       runs-parts n (λ c. f (suc c)) (λ c. h (suc c)) (λ c. l (suc c)) (append_split (f 0) (h 0) _ _ (l 0) e).1 c (omega arith)
 
   -- what holds in each run holds in all
-  pub all_runs : (P : X → Type 0) (n : ℕ) (f : ℕ → List X) → ((c : ℕ) → c < n → All P (f c)) → All P (runs n f)
+  pub all_runs : (P : X → Type 0) (n : ℕ) (f : ℕ → List X) → ((c : ℕ) → c < n → AllByRecursion P (f c)) → AllByRecursion P (runs n f)
   all_runs P zero f h = tt
   all_runs P (suc n) f h = All-append P (f 0) (runs n (λ c. f (suc c))) (h 0 (omega arith)) (all_runs P n (λ c. f (suc c)) (λ c l. h (suc c) (omega arith)))
 

@@ -2,7 +2,7 @@
 use Rattle.std.proofs.Common.{◌≡◌, ℕ, suc, ◌≤◌, Bool, true, false, cond, ◌||◌, List, [], ◌∷◌, length, Decides, sym, refl, ap, ◌∙◌, subst, ap₂, ⊎_elim, arith}
 use mathlib.Core.List.Memᴰ
 use mathlib.Core.List.{Memᴰ}
-use Rattle.std.specs.List.{AllByRecursion as All}
+use Rattle.std.specs.List.{AllByRecursion}
 use Rattle.std.proofs.lemmas.Bool.{both_ways, or_cases, or_left, or_right, cases_Bool}
 use Rattle.pages.specs.Parts.{Part, same, Branching, parts, has}
 use Rattle.pages.specs.Sizes.{count, parts_of, Unrepeated, SizeIsTheNumberOfBranchingParts}
@@ -25,7 +25,7 @@ module _ {X : Type 0} (eq : X → X → Bool) (law : (x y : X) → Decides (eq x
       ⊎_elim (λ e. or_left (eq x y) (has eq x ys) ((law x y).1 e)) (λ t. or_right (eq x y) (has eq x ys) (has-from_member x ys t)) (Memᴰ.cases_cons m)
 
   -- what holds of each member holds of all
-  pub all_from_members : (P : X → Type 0) (xs : List X) → ((x : X) → Memᴰ x xs → P x) → All P xs
+  pub all_from_members : (P : X → Type 0) (xs : List X) → ((x : X) → Memᴰ x xs → P x) → AllByRecursion P xs
   all_from_members P [] h = tt
   all_from_members P (x ∷ xs) h = (h x (Memᴰ.head refl), all_from_members P xs (λ y m. h y (Memᴰ.tail m)))
 

@@ -1,7 +1,7 @@
 -- What the four ways make of decisions.
 use Rattle.std.proofs.Common.{◌≡◌, ℕ, suc, ◌<◌, ◌≤◌, Bool, true, false, cond, eqb, List, [], ◌∷◌, ◌++◌, map, length, filter, refl, ap, ◌∙◌, arith}
 use mathlib.Core.List.{map-append}
-use Rattle.std.specs.List.{AllByRecursion as All}
+use Rattle.std.specs.List.{AllByRecursion}
 use Rattle.std.proofs.lemmas.List.Elements.{filter-append}
 use Rattle.std.proofs.ByRecursion.{All-weaker, All-map, all_kept_by}
 use Rattle.std.proofs.lemmas.Bool.{lt-ltb, ne_eqb}
@@ -134,7 +134,7 @@ every_way_combines_codes_lem t laws regrouping = record {
 }
 
 -- rules whose decisions are codes decide codes
-pub decided-below : (t : Tables) → ShortCutLaws t → (way : ℕ) (rules : List Rule) (cells : List ℕ) → All (λ r. r.decision < t.size) rules → decides t way rules cells < t.size
+pub decided-below : (t : Tables) → ShortCutLaws t → (way : ℕ) (rules : List Rule) (cells : List ℕ) → AllByRecursion (λ r. r.decision < t.size) rules → decides t way rules cells < t.size
 decided-below t laws way rules cells codes =
     combined-below t laws way (deciding rules cells)
     (All-map _ (λ r. r.decision) _ (all_kept_by (λ r. matches r.named cells) _ rules codes))

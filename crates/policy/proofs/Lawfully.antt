@@ -1,6 +1,6 @@
 -- What a policy sheet means is lawful: its decisions are codes.
 use Rattle.std.proofs.Common.{◌≡◌, ℕ, ◌<◌, Bool, true, false, cond, ◌&&◌, ltb, leb, List, [], ◌∷◌, ◌++◌, length, Ok, Err, Option, refl, subst, arith}
-use Rattle.std.specs.List.{AllByRecursion as All}
+use Rattle.std.specs.List.{AllByRecursion}
 use Rattle.std.proofs.ByRecursion.{All-push}
 use Rattle.std.proofs.lemmas.Bool.{cond-false}
 use Rattle.std.proofs.lemmas.Bool.Decides.{nat_tests}
@@ -26,18 +26,18 @@ Below k r = r.decision < k
 abbrev AllCodes : ℕ → Progress → Type 0
 AllCodes k start = Unit {0}
 AllCodes k (headed w) = Unit {0}
-AllCodes k (ruled w rules r) = All (Below k) rules × Below k r
+AllCodes k (ruled w rules r) = AllByRecursion (Below k) rules × Below k r
 
 module _ (v : List Attribute) (k : ℕ) where
   -- a rule that is opened decides a code, for others are refused
-  opened : (at w : ℕ) (rules : List Rule) (d : ℕ) (q : Progress) → All (Below k) rules → open_rule v k at w rules d ≡ Ok q → AllCodes k q
+  opened : (at w : ℕ) (rules : List Rule) (d : ℕ) (q : Progress) → AllByRecursion (Below k) rules → open_rule v k at w rules d ≡ Ok q → AllCodes k q
   opened at w rules d q a e =
       either_way (leb 1 d && ltb d k) _ (refuse 13 at) (Ok q) (AllCodes k q) e
       (λ t f. let below : d < k = grind (arith, nat_tests) in subst (AllCodes k) (same_value _ q f) (a, below))
       (λ t f. absurd (not_both _ q f))
 
   -- a condition leaves the decision as it is
-  conditioned : (at w : ℕ) (rules : List Rule) (r : Rule) (a : List ℕ) (cells : Kind → Option (List ℕ)) (q : Progress) → All (Below k) rules → Below k r → add_condition v at w rules r a cells ≡ Ok q → AllCodes k q
+  conditioned : (at w : ℕ) (rules : List Rule) (r : Rule) (a : List ℕ) (cells : Kind → Option (List ℕ)) (q : Progress) → AllByRecursion (Below k) rules → Below k r → add_condition v at w rules r a cells ≡ Ok q → AllCodes k q
   conditioned at w rules r a cells q all b e =
       let x = given_value (place a (names_of v)) 23 at (λ i. given (cells (attribute_at v i).kind) 24 at (λ cs. Ok (ruled w rules (adding r i cs)))) q e in
       let y = given_value (cells (attribute_at v x.0).kind) 24 at (λ cs. Ok (ruled w rules (adding r x.0 cs))) q x.2 in
@@ -77,15 +77,15 @@ module _ (v : List Attribute) (k : ℕ) where
       (λ t d. absurd (not_both _ q d))
 
   -- and the rules of the whole sheet do
-  finished : (end : ℕ) (p : Progress) (x : ℕ × List Rule) → AllCodes k p → finish end p ≡ Ok x → All (Below k) x.1
+  finished : (end : ℕ) (p : Progress) (x : ℕ × List Rule) → AllCodes k p → finish end p ≡ Ok x → AllByRecursion (Below k) x.1
   finished end start x h e = absurd (not_both _ x e)
-  finished end (headed w) x h e = subst (λ y. All (Below k) y.1) (same_value _ x e) tt
-  finished end (ruled w rules r) x h e = subst (λ y. All (Below k) y.1) (same_value _ x e) (All-push (Below k) rules r h.0 h.1)
+  finished end (headed w) x h e = subst (λ y. AllByRecursion (Below k) y.1) (same_value _ x e) tt
+  finished end (ruled w rules r) x h e = subst (λ y. AllByRecursion (Below k) y.1) (same_value _ x e) (All-push (Below k) rules r h.0 h.1)
 
   -- a policy that is read has rules that decide codes
-  pub rules_decide_codes : (bs : List ℕ) (x : ℕ × List Rule) → policy_of v k bs ≡ Ok x → All (Below k) x.1
+  pub rules_decide_codes : (bs : List ℕ) (x : ℕ × List Rule) → policy_of v k bs ≡ Ok x → AllByRecursion (Below k) x.1
   rules_decide_codes bs x e =
-      either_way (leb (length bs) 65535) (and_then (reading (step v k) 0 start 0 bs) (finish (length bs))) (refuse 14 0) (Ok x) (All (Below k) x.1) e
+      either_way (leb (length bs) 65535) (and_then (reading (step v k) 0 start 0 bs) (finish (length bs))) (refuse 14 0) (Ok x) (AllByRecursion (Below k) x.1) e
       (λ t d.
       let y = and_then_value (reading (step v k) 0 start 0 bs) (finish (length bs)) x d in
       finished (length bs) y.0 x (kept (step v k) (AllCodes k) (λ at s s' f. stepped at s s' f) bs 0 start y.0 0 tt y.1) y.2)

@@ -1,7 +1,7 @@
 -- Laws of the four ways to combine decisions.
 use Rattle.std.specs.Prelude.{◌≡◌, ℕ, ◌<◌, ◌≤◌, cond, List, [], ◌∷◌, ◌++◌, map, length, ◌==◌}
 use mathlib.Core.List.{foldr}
-use Rattle.std.specs.List.{AllByRecursion as All}
+use Rattle.std.specs.List.{AllByRecursion}
 use Rattle.algebra.specs.Tables.{Tables}
 use Rattle.algebra.specs.Laws.{ShortCutLaws, RegroupingLaws}
 use Rattle.algebra.specs.Derived.{precedence}
@@ -11,11 +11,11 @@ use Rattle.policy.specs.Rules.{first_of, sum_of, only_of, combine}
 
 -- each decision is one that a rule may make: from 1 to k - 1
 abbrev pub Applicable : ℕ → List ℕ → Type 0
-Applicable k ds = All (λ d. (1 ≤ d) × (d < k)) ds
+Applicable k ds = AllByRecursion (λ d. (1 ≤ d) × (d < k)) ds
 
 -- each decision is a code below k
 abbrev pub Codes : ℕ → List ℕ → Type 0
-Codes k ds = All (λ d. d < k) ds
+Codes k ds = AllByRecursion (λ d. d < k) ds
 
 -- by the first way an earlier rule takes precedence over a later one
 abbrev pub FirstWayIsPrecedence : Type 0

@@ -1,6 +1,6 @@
 -- One sweep closes the marks of one level more, for the branches of a sound record lead to later levels.
 use Rattle.std.proofs.Common.{◌≡◌, ℕ, suc, ◌+◌, ◌<◌, ◌≤◌, Bool, true, false, cond, ◌&&◌, eqb, ◌≢◌, ◌⊎◌, List, length, get_or, replicate, sym, refl, ap, ◌∙◌, subst, inl, inr, ⊎_elim, add-one, arith}
-use Rattle.std.specs.List.{AllByRecursion as All}
+use Rattle.std.specs.List.{AllByRecursion}
 use Rattle.std.proofs.ByRecursion.{All-get_or}
 use Rattle.std.proofs.lemmas.List.{get_or_past, get_or-replicate, length-replicate}
 use Rattle.std.proofs.lemmas.Bool.{cases_eq, cases_lt, both_ways, eqb-true, eq-eqb}
@@ -145,7 +145,7 @@ unmarked many r m = let one : ◌≡◌ {A = ℕ} 0 1 = sym zero_there ∙ m in 
         (cases_lt r many)
 
 -- the root of a list that fits, if it is a record's
-root_fits : (k : ℕ) (nodes : List Node) (Live : ℕ → Type 0) (ls : List Link) (i s : ℕ) → i < length ls → get_or ls i (Decision 0) ≡ Record s → All (Fit k nodes Live 0) ls → Live s
+root_fits : (k : ℕ) (nodes : List Node) (Live : ℕ → Type 0) (ls : List Link) (i s : ℕ) → i < length ls → get_or ls i (Decision 0) ≡ Record s → AllByRecursion (Fit k nodes Live 0) ls → Live s
 root_fits k nodes Live ls i s b e f = (record_fits k nodes Live 0 (get_or ls i (Decision 0)) s e (All-get_or (Fit k nodes Live 0) ls i (Decision 0) b f)).0
 
 -- marks of the roots alone are a beginning

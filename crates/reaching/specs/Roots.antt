@@ -1,6 +1,6 @@
 -- Roots, and the records that links mark.
 use Rattle.std.specs.Prelude.{ℕ, zero, suc, cond, ◌&&◌, List, [], ◌∷◌, ◌++◌, Some, None, Option, ◌==◌, slice_index, slice_set}
-use Rattle.std.specs.List.{AllByRecursion as All}
+use Rattle.std.specs.List.{AllByRecursion}
 use Rattle.diagram.specs.declared.Node.{Node}
 use Rattle.diagram.specs.declared.Link.{Link}
 use Rattle.diagram.specs.declared.Link.TheVariants.{Decision, Record}
@@ -35,4 +35,4 @@ swept_one j n x r marks = cond (x.level == j && slice_index marks r == 1) (marke
 -- what the roots reach is sound, and each root may stand on it
 pub record SoundRoots (k : ℕ) (shape : List ℕ) (nodes : List Node) (roots : List Link) : Type 0 where
   pub what_they_reach_is_sound : Sound k shape nodes (Met nodes shape roots)
-  pub each_root_fits : All (Fit k nodes (Met nodes shape roots) 0) roots
+  pub each_root_fits : AllByRecursion (Fit k nodes (Met nodes shape roots) 0) roots

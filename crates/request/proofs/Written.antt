@@ -1,6 +1,6 @@
 -- A request written for cells is read as these cells.
 use Rattle.std.proofs.Common.{◌≡◌, ℕ, suc, ◌+◌, ◌-◌, ◌*◌, ◌<◌, ◌≤◌, true, leb, List, [], ◌∷◌, ◌++◌, map, length, get_or, set, ℤ, pos, Some, None, Ok, sym, refl, ap, ◌∙◌, subst, append_assoc, arith, length-append, w32, SFits}
-use Rattle.std.specs.List.{AllByRecursion as All}
+use Rattle.std.specs.List.{AllByRecursion}
 use Rattle.std.proofs.lemmas.List.{get_or_at, set_at, length-map, get_or-map}
 use Rattle.std.proofs.ByRecursion.{All-get_or}
 use Rattle.std.proofs.lemmas.Bool.{le-leb, cond-true}
@@ -94,7 +94,7 @@ field_length n (ranged zs) c h q l =
     omega arith
 
 -- so the fields have at most 36 bytes an attribute
-fields_length : (v : List Attribute) (cells : List ℕ) → All (λ a. is_name a.name ≡ true) v → All (λ a. ProperKind a.kind) v → Cells (shape_of v) cells → length (request_for v cells) ≤ 36 * length v
+fields_length : (v : List Attribute) (cells : List ℕ) → AllByRecursion (λ a. is_name a.name ≡ true) v → AllByRecursion (λ a. ProperKind a.kind) v → Cells (shape_of v) cells → length (request_for v cells) ≤ 36 * length v
 fields_length [] cells p q n = omega arith
 fields_length (a ∷ v) [] p q n = absurd n
 fields_length (a ∷ v) (c ∷ cells) p q n =

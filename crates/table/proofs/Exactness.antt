@@ -1,6 +1,6 @@
 -- A record is lacking exactly where the standing pages and the new one together have more distinct branching parts than there are records.
 use Rattle.std.proofs.Common.{◌≡◌, ℕ, ◌<◌, ◌≤◌, true, eqb, ◌⊎◌, List, [], ◌∷◌, ◌++◌, map, length, Some, None, Option, sym, refl, ◌∙◌, subst, ap₂, inl, inr, ⊎_elim, arith}
-use Rattle.std.specs.List.{flat_map, AllByRecursion as All}
+use Rattle.std.specs.List.{flat_map, AllByRecursion}
 use Rattle.std.proofs.lemmas.Bool.{eqb-true}
 use Rattle.pages.specs.Parts.{Part, same, has, parts, Branching}
 use Rattle.pages.specs.Sizes.{parts_of, size}
@@ -44,11 +44,11 @@ module _ (k : ℕ) (shape : List ℕ) (nodes : List Node) (marks : List ℕ) (ro
     none_lacks h = h.link_or_lack all_parts covers
 
     -- in memory that has grown the roots may stand, and keep their pages
-    kept_pages : Grown k shape nodes (Marked marks) nodes' (Marked marks') → (ls : List Link) → All (Fit k nodes (Marked marks) 0) ls → map (page nodes' 0 shape) ls ≡ map (page nodes 0 shape) ls
+    kept_pages : Grown k shape nodes (Marked marks) nodes' (Marked marks') → (ls : List Link) → AllByRecursion (Fit k nodes (Marked marks) 0) ls → map (page nodes' 0 shape) ls ≡ map (page nodes 0 shape) ls
     kept_pages g [] a = refl
     kept_pages g (x ∷ xs) a = ap₂ ◌∷◌ (page_frame k shape nodes (Marked marks) stand.live_is_sound nodes' g.live_records_stay 0 shape refl x a.0) (kept_pages g xs a.1)
 
-    still_stand : Grown k shape nodes (Marked marks) nodes' (Marked marks') → (ls : List Link) → All (Fit k nodes (Marked marks) 0) ls → All (Fit k nodes' (Marked marks') 0) ls
+    still_stand : Grown k shape nodes (Marked marks) nodes' (Marked marks') → (ls : List Link) → AllByRecursion (Fit k nodes (Marked marks) 0) ls → AllByRecursion (Fit k nodes' (Marked marks') 0) ls
     still_stand g [] a = tt
     still_stand g (x ∷ xs) a = (fit_frame k shape nodes nodes' (Marked marks) (Marked marks') g.live_records_stay g.live_stays_live 0 x a.0, still_stand g xs a.1)
 

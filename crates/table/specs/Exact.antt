@@ -1,6 +1,6 @@
 -- Building a page where only roots stand: when it can be built, and what comes.
 use Rattle.std.specs.Prelude.{ℕ, ◌<◌, ◌≤◌, ◌⊎◌, List, ◌∷◌, map, length, Some, None, Option}
-use Rattle.std.specs.List.{AllByRecursion as All}
+use Rattle.std.specs.List.{AllByRecursion}
 use Rattle.vocabulary.specs.Grid.{Filled}
 use Rattle.pages.specs.Parts.{Branching}
 use Rattle.pages.specs.Sizes.{size}
@@ -15,7 +15,7 @@ use Rattle.table.specs.Built.{Built}
 pub record OnlyRootsStand (k : ℕ) (shape : List ℕ) (nodes : List Node) (marks : List ℕ) (roots : List Link) : Type 0 where
   pub attributes_have_cells : Filled shape
   pub live_is_sound : Sound k shape nodes (Marked marks)
-  pub roots_may_stand : All (Fit k nodes (Marked marks) 0) roots
+  pub roots_may_stand : AllByRecursion (Fit k nodes (Marked marks) 0) roots
   pub only_what_they_meet_is_live : (r : ℕ) → Marked marks r → Met nodes shape roots r
 
 -- there is an answer where page and standing pages have no more distinct branching parts than there are records, and none where they have more

@@ -1,6 +1,6 @@
 -- How the progress of a vocabulary goes on, and what holds of it from field to field.
 use Rattle.std.proofs.Common.{◌≡◌, ℕ, suc, ◌-◌, ◌*◌, ◌<◌, ◌≤◌, true, false, cond, leb, List, [], ◌∷◌, ◌++◌, length, Ok, sym, ap, ◌∙◌, subst, zero-le, mul-one, arith, length-append}
-use Rattle.std.specs.List.{AllByRecursion as All}
+use Rattle.std.specs.List.{AllByRecursion}
 use Rattle.std.proofs.ByRecursion.{All-push}
 use Rattle.std.proofs.lemmas.List.{map_push, length_push}
 use Rattle.std.proofs.lemmas.Bool.{leb-true, leb-false}
@@ -85,7 +85,7 @@ in_grid_value at v c p q e =
     (λ t d. (leb-true (grid (shape_of v) * c) 4096 t, same_value p q d)) (λ t d. absurd (not_both _ q d))
 
 -- a value is added only if there is room, its name is new and the grid stays small
-value_keeps : (at : ℕ) (v : List Attribute) (n : List ℕ) (names : List (List ℕ)) (w : List ℕ) (q : Progress) → MayFollow v n → All (λ x. is_name x ≡ true) names → Distinct names → is_name w ≡ true
+value_keeps : (at : ℕ) (v : List Attribute) (n : List ℕ) (names : List (List ℕ)) (w : List ℕ) (q : Progress) → MayFollow v n → AllByRecursion (λ x. is_name x ≡ true) names → Distinct names → is_name w ≡ true
     → add_value at v n names w ≡ Ok q → Sound q
 value_keeps at v n names w q m a d h e =
     let next : Progress = listing v n (names ++ w ∷ []) in

@@ -4,14 +4,14 @@ use mathlib.Core.Logic.{∥∥₁_elim}
 use mathlib.Core.HLevel.{⊥_prop}
 use mathlib.Core.Bool.{Bool-set}
 use native.Mathlib.Bridge.{le_prop}
-use Rattle.std.specs.List.{AllByRecursion as All}
+use Rattle.std.specs.List.{AllByRecursion}
 use Rattle.fields.specs.Words.{is_name}
 use Rattle.vocabulary.specs.Grid.{Narrow}
 use Rattle.vocabulary.specs.Vocabulary.{Kind, valued, ranged, Attribute, names_of, Distinct, ProperKind, Proper}
 
 module _ {A : Type 0} (e : ∥ A ∥₁) where
   -- of each element of a list
-  all_out : {X : Type 0} (P : X → Type 0) → ((x : X) → (A → P x) → P x) → (xs : List X) → (A → All P xs) → All P xs
+  all_out : {X : Type 0} (P : X → Type 0) → ((x : X) → (A → P x) → P x) → (xs : List X) → (A → AllByRecursion P xs) → AllByRecursion P xs
   all_out P one [] f = tt
   all_out P one (x ∷ xs) f = (one x (λ a. (f a).0), all_out P one xs (λ a. (f a).1))
 
@@ -19,7 +19,7 @@ module _ {A : Type 0} (e : ∥ A ∥₁) where
   distinct_out [] f = tt
   distinct_out (x ∷ xs) f = (all_out (λ y. y ≢ x) (λ y g q. ∥∥₁_elim e ⊥_prop (λ a. g a q)) xs (λ a. (f a).0), distinct_out xs (λ a. (f a).1))
 
-  names_out : (xs : List (List ℕ)) → (A → All (λ n. is_name n ≡ true) xs) → All (λ n. is_name n ≡ true) xs
+  names_out : (xs : List (List ℕ)) → (A → AllByRecursion (λ n. is_name n ≡ true) xs) → AllByRecursion (λ n. is_name n ≡ true) xs
   names_out = all_out (λ n. is_name n ≡ true) (λ n g. ∥∥₁_elim e (Bool-set _ _) g)
 
   kind_out : (k : Kind) → (A → ProperKind k) → ProperKind k

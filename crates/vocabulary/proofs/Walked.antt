@@ -4,7 +4,7 @@ use native.Mathlib.Nat.{mul-div_cancel_left}
 use Rattle.std.proofs.lemmas.List.{append-nil, append_assoc, at_drop_more, at_drop_all, take_more_set}
 use Rattle.std.proofs.lemmas.Bool.{lt-ltb, le-ltb, cond-true, cond-false}
 use Rattle.fields.specs.Fields.{when}
-use Rattle.std.specs.List.{AllByRecursion as All}
+use Rattle.std.specs.List.{AllByRecursion}
 use Rattle.vocabulary.specs.declared.record.Shape.{Shape}
 use Rattle.vocabulary.specs.Record.{counts_of}
 use Rattle.vocabulary.specs.Vocabulary.{Kind, valued, ranged, Attribute, count, shape_of, ProperKind}
@@ -31,7 +31,7 @@ kind_positive (valued names) p = p.0
 kind_positive (ranged zs) p = let two : 2 ≤ length zs = p.0 in omega arith
 
 -- so the product of the counts is positive
-pub grid_positive : (v : List Attribute) → All (λ a. ProperKind a.kind) v → 0 < grid (shape_of v)
+pub grid_positive : (v : List Attribute) → AllByRecursion (λ a. ProperKind a.kind) v → 0 < grid (shape_of v)
 grid_positive [] p = omega arith
 grid_positive (a ∷ v) p = mul-pos (kind_positive a.kind p.0) (grid_positive v p.1)
 
@@ -41,7 +41,7 @@ kind_narrow (valued names) p = p.1
 kind_narrow (ranged zs) p = let few : length zs ≤ 17 = p.1 in omega arith
 
 -- so a proper vocabulary has a narrow shape
-pub shape_narrow : (v : List Attribute) → All (λ a. ProperKind a.kind) v → Narrow (shape_of v)
+pub shape_narrow : (v : List Attribute) → AllByRecursion (λ a. ProperKind a.kind) v → Narrow (shape_of v)
 shape_narrow [] p i = omega arith
 shape_narrow (a ∷ v) p zero = kind_narrow a.kind p.0
 shape_narrow (a ∷ v) p (suc i) = shape_narrow v p.1 i

@@ -1,7 +1,7 @@
 -- Vocabularies: attributes by name, each with value names or rising cuts, and what a vocabulary sheet says.
 use Rattle.std.specs.Prelude.{◌≡◌, ℕ, suc, ◌+◌, ◌-◌, ◌*◌, ◌≤◌, Bool, true, false, cond, ◌||◌, ◌≢◌, List, [], ◌∷◌, ◌++◌, map, length, ℤ, Some, None, Ok, Option, FitsSigned, ◌==◌, nat_le}
 use Rattle.std.specs.Int.{w32}
-use Rattle.std.specs.List.{AllByRecursion as All}
+use Rattle.std.specs.List.{AllByRecursion}
 use Rattle.refusal.specs.Answers.{Answer, refuse, and_then}
 use Rattle.fields.specs.Words.{is_name, equal, rises}
 use Rattle.fields.specs.Fields.{Framed, reading, limited, Said, attribute, value, cuts, way, rule, choice, range, measure, said_by}
@@ -135,19 +135,19 @@ ReadingGoesOn = (s t : List ℕ) (at : ℕ) (p q : Progress) → reading step at
 -- no two are the same
 abbrev pub Distinct : List (List ℕ) → Type 0
 Distinct [] = Unit {0}
-Distinct (x ∷ xs) = All (λ y. y ≢ x) xs × Distinct xs
+Distinct (x ∷ xs) = AllByRecursion (λ y. y ≢ x) xs × Distinct xs
 
 -- 1 to 16 distinct names, or 2 to 17 rising cuts
 abbrev pub ProperKind : Kind → Type 0
-ProperKind (valued names) = (1 ≤ length names) × (length names ≤ 16) × All (λ n. is_name n ≡ true) names × Distinct names
-ProperKind (ranged zs) = (2 ≤ length zs) × (length zs ≤ 17) × All (FitsSigned w32) zs × (rises zs ≡ true)
+ProperKind (valued names) = (1 ≤ length names) × (length names ≤ 16) × AllByRecursion (λ n. is_name n ≡ true) names × Distinct names
+ProperKind (ranged zs) = (2 ≤ length zs) × (length zs ≤ 17) × AllByRecursion (FitsSigned w32) zs × (rises zs ≡ true)
 
 -- names are proper and distinct, cuts rise, and the grid fits
 pub record Proper (v : List Attribute) : Type 0 where
   pub eight_attributes_at_most : length v ≤ 8
-  pub names_are_names : All (λ a. is_name a.name ≡ true) v
+  pub names_are_names : AllByRecursion (λ a. is_name a.name ≡ true) v
   pub names_are_distinct : Distinct (names_of v)
-  pub kinds_are_proper : All (λ a. ProperKind a.kind) v
+  pub kinds_are_proper : AllByRecursion (λ a. ProperKind a.kind) v
   pub grid_fits : grid (shape_of v) ≤ 4096
 
 -- a vocabulary that is read is proper and has an attribute
