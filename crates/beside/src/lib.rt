@@ -27,9 +27,9 @@ pub fn make_beside<P: Places>(
     slots: &mut [Frame<P::Place>],
     start: P::Place,
 ) -> Option<Link>
-    requires bytes_len { length bytes.old ≡ length nodes.old }
-    requires nodes_len_bound { length nodes.old ≤ 2048 }
-    requires in_bounds { 8 ≤ length slots.old }
+    requires one_byte_a_record { length bytes.old ≡ length nodes.old }
+    requires at_most_2048_records { length nodes.old ≤ 2048 }
+    requires eight_slots { 8 ≤ length slots.old }
     ensures bytes_are_cleared { bytes.new ≡ replicate (length bytes.old) 0 }
     ensures keeps_what_was_kept { (first : P) → P.Places.kept first places.old → P.Places.kept first places.new }
     ensures made_beside_the_roots { (k : ℕ) → SoundRoots k (counts_of shape.now) nodes.old (roots_in roots.now) → KeepWhileMemoryGrows (P.Places.stands places.old) (P.Places.says places.old) k (counts_of shape.now) → FillTheGrid (P.Places.stands places.old) (P.Places.says places.old) k (counts_of shape.now) → ((marks : List ℕ) → Closed (counts_of shape.now) nodes.old (roots_in roots.now) marks → P.Places.stands places.old k (counts_of shape.now) nodes.old marks 0 start) → Makes k (counts_of shape.now) nodes.old (roots_in roots.now) nodes.new (P.Places.says places.old (counts_of shape.now) nodes.old 0 start) result }

@@ -65,8 +65,8 @@ fn down<P: Places>(
     level: u8,
     place: P::Place,
 ) -> Turn<P::Place>
-    requires counts_len_bound { length counts.now ≤ 8 }
-    requires counts_in_bounds { length counts.now ≤ length stack.old.slots.now }
+    requires at_most_eight_attributes { length counts.now ≤ 8 }
+    requires one_slot_an_attribute { length counts.now ≤ length stack.old.slots.now }
     ensures same_slots { stack.new.slots.ghost_name ≡ stack.old.slots.ghost_name }
     ensures as_many_slots { length stack.new.slots.now ≡ length stack.old.slots.now }
     ensures keeps_what_was_kept { (first : P) → P.Places.kept first places.old → P.Places.kept first places.new }
@@ -94,10 +94,10 @@ fn up<P: Places>(
     stack: &mut Stack<Frame<P::Place>>,
     link: Link,
 ) -> Turn<P::Place>
-    requires bytes_len { length marking.old.bytes.now ≡ length nodes.old }
-    requires nodes_len_bound { length nodes.old ≤ 2048 }
+    requires one_byte_a_record { length marking.old.bytes.now ≡ length nodes.old }
+    requires at_most_2048_records { length nodes.old ≤ 2048 }
     requires narrow { Narrow counts.now }
-    requires counts_len_bound { length counts.now ≤ 8 }
+    requires at_most_eight_attributes { length counts.now ≤ 8 }
     ensures same_slots { stack.new.slots.ghost_name ≡ stack.old.slots.ghost_name }
     ensures as_many_slots { length stack.new.slots.now ≡ length stack.old.slots.now }
     ensures same_bytes { marking.new.bytes.ghost_name ≡ marking.old.bytes.ghost_name }
@@ -142,11 +142,11 @@ pub fn build<P: Places>(
     slots: &mut [Frame<P::Place>],
     start: P::Place,
 ) -> Option<Link>
-    requires bytes_len { length marking.old.bytes.now ≡ length nodes.old }
-    requires nodes_len_bound { length nodes.old ≤ 2048 }
+    requires one_byte_a_record { length marking.old.bytes.now ≡ length nodes.old }
+    requires at_most_2048_records { length nodes.old ≤ 2048 }
     requires narrow { Narrow counts.now }
-    requires counts_len_bound { length counts.now ≤ 8 }
-    requires counts_in_bounds { length counts.now ≤ length slots.old }
+    requires at_most_eight_attributes { length counts.now ≤ 8 }
+    requires one_slot_an_attribute { length counts.now ≤ length slots.old }
     ensures same_bytes { marking.new.bytes.ghost_name ≡ marking.old.bytes.ghost_name }
     ensures live_stays { LiveStays nodes.old marking.old.bytes.now nodes.new marking.new.bytes.now }
     ensures keeps_what_was_kept { (first : P) → P.Places.kept first places.old → P.Places.kept first places.new }

@@ -31,8 +31,8 @@ pub fn import<S: Source>(
     shape: &Shape,
     roots: &[Option<Link>],
 ) -> Option<Link>
-    requires bytes_len { length bytes.old ≡ length nodes.old }
-    requires nodes_len_bound { length nodes.old ≤ 2048 }
+    requires one_byte_a_record { length bytes.old ≡ length nodes.old }
+    requires at_most_2048_records { length nodes.old ≤ 2048 }
     ensures bytes_are_cleared { bytes.new ≡ replicate (length bytes.old) 0 }
     ensures meaning_stays { S.Source.meaning source.new ≡ S.Source.meaning source.old }
     ensures made_beside_the_roots { (k : ℕ) → SoundRoots k (counts_of shape.now) nodes.old (roots_in roots.now) → ((g : ℕ) → (S.Source.meaning source.old).decision g < k) → Makes k (counts_of shape.now) nodes.old (roots_in roots.now) nodes.new (decisions_at (S.Source.meaning source.old).decision (grid (counts_of shape.now)) 0) result }
@@ -57,8 +57,8 @@ pub fn combine<A: Algebra>(
     shape: &Shape,
     roots: &[Option<Link>],
 ) -> Option<Link>
-    requires bytes_len { length bytes.old ≡ length nodes.old }
-    requires nodes_len_bound { length nodes.old ≤ 2048 }
+    requires one_byte_a_record { length bytes.old ≡ length nodes.old }
+    requires at_most_2048_records { length nodes.old ≤ 2048 }
     ensures bytes_are_cleared { bytes.new ≡ replicate (length bytes.old) 0 }
     ensures made_beside_the_roots { SoundRoots (A.Algebra.tables algebra.now).size (counts_of shape.now) nodes.old (roots_in roots.now) → Fit (A.Algebra.tables algebra.now).size nodes.old (Met nodes.old (counts_of shape.now) (roots_in roots.now)) 0 left → Fit (A.Algebra.tables algebra.now).size nodes.old (Met nodes.old (counts_of shape.now) (roots_in roots.now)) 0 right → Makes (A.Algebra.tables algebra.now).size (counts_of shape.now) nodes.old (roots_in roots.now) nodes.new (combined (operator_of operator (A.Algebra.tables algebra.now)) (page nodes.old 0 (counts_of shape.now) left) (page nodes.old 0 (counts_of shape.now) right)) result }
 {
@@ -77,8 +77,8 @@ pub fn negate<A: Algebra>(
     shape: &Shape,
     roots: &[Option<Link>],
 ) -> Option<Link>
-    requires bytes_len { length bytes.old ≡ length nodes.old }
-    requires nodes_len_bound { length nodes.old ≤ 2048 }
+    requires one_byte_a_record { length bytes.old ≡ length nodes.old }
+    requires at_most_2048_records { length nodes.old ≤ 2048 }
     ensures bytes_are_cleared { bytes.new ≡ replicate (length bytes.old) 0 }
     ensures made_beside_the_roots { SoundRoots (A.Algebra.tables algebra.now).size (counts_of shape.now) nodes.old (roots_in roots.now) → Fit (A.Algebra.tables algebra.now).size nodes.old (Met nodes.old (counts_of shape.now) (roots_in roots.now)) 0 link → Makes (A.Algebra.tables algebra.now).size (counts_of shape.now) nodes.old (roots_in roots.now) nodes.new (map (A.Algebra.tables algebra.now).negation (page nodes.old 0 (counts_of shape.now) link)) result }
 {
@@ -97,8 +97,8 @@ pub fn project(
     shape: &Shape,
     roots: &[Option<Link>],
 ) -> Option<Link>
-    requires bytes_len { length bytes.old ≡ length nodes.old }
-    requires nodes_len_bound { length nodes.old ≤ 2048 }
+    requires one_byte_a_record { length bytes.old ≡ length nodes.old }
+    requires at_most_2048_records { length nodes.old ≤ 2048 }
     ensures bytes_are_cleared { bytes.new ≡ replicate (length bytes.old) 0 }
     ensures made_beside_the_roots { (k : ℕ) → 0 < k → length masks.now ≡ length (counts_of shape.now) → SoundRoots k (counts_of shape.now) nodes.old (roots_in roots.now) → Fit k nodes.old (Met nodes.old (counts_of shape.now) (roots_in roots.now)) 0 link → Makes k (counts_of shape.now) nodes.old (roots_in roots.now) nodes.new (projected masks.now decisions (counts_of shape.now) (page nodes.old 0 (counts_of shape.now) link)) result }
 {

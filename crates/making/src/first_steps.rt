@@ -27,8 +27,8 @@ pub fn combined_at<A: Algebra, S: Source, T: Source>(
     shape: &Shape,
     cells: &[u8],
 ) -> Option<u8>
-    requires bytes_len { length bytes.old ≡ length nodes.old }
-    requires nodes_len_bound { length nodes.old ≤ 2048 }
+    requires one_byte_a_record { length bytes.old ≡ length nodes.old }
+    requires at_most_2048_records { length nodes.old ≤ 2048 }
     ensures bytes_are_cleared { bytes.new ≡ replicate (length bytes.old) 0 }
     ensures decides_by_the_operator { ((g : ℕ) → (S.Source.meaning first.old).decision g < (A.Algebra.tables algebra.now).size) → ((g : ℕ) → (T.Source.meaning second.old).decision g < (A.Algebra.tables algebra.now).size) → size (counts_of shape.now) (combined (operator_of operator (A.Algebra.tables algebra.now)) (decisions_at (S.Source.meaning first.old).decision (grid (counts_of shape.now)) 0) (decisions_at (T.Source.meaning second.old).decision (grid (counts_of shape.now)) 0) ∷ decisions_at (T.Source.meaning second.old).decision (grid (counts_of shape.now)) 0 ∷ decisions_at (S.Source.meaning first.old).decision (grid (counts_of shape.now)) 0 ∷ []) ≤ length nodes.old → Cells (counts_of shape.now) cells.now → result ≡ Some (operator_of operator (A.Algebra.tables algebra.now) ((S.Source.meaning first.old).decision (number (counts_of shape.now) cells.now)) ((T.Source.meaning second.old).decision (number (counts_of shape.now) cells.now))) }
 {

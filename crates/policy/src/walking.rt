@@ -192,7 +192,7 @@ impl Walk {
         field: Field,
     ) -> Result<(), Refusal>
         requires knows { Knows (length (attributes_of vocabulary.now)) self.old.state }
-        requires cells_len { length cells.now ≡ length (attributes_of vocabulary.now) }
+        requires one_cell_an_attribute { length cells.now ≡ length (attributes_of vocabulary.now) }
         requires parts_fit { PartsFit raw.now.content.now field }
         ensures { Stepped (length (attributes_of vocabulary.now)) (enter_of (A.tables algebra.now) (attributes_of vocabulary.now) cells.now raw.now.at (state_in self.old.state) (said field.entry)) result self.new }
     {
@@ -247,7 +247,7 @@ impl Walk {
         raw: &RawField,
     ) -> Result<(), Refusal>
         requires knows { Knows (length (attributes_of vocabulary.now)) self.old.state }
-        requires cells_len { length cells.now ≡ length (attributes_of vocabulary.now) }
+        requires one_cell_an_attribute { length cells.now ≡ length (attributes_of vocabulary.now) }
         ensures { Stepped (length (attributes_of vocabulary.now)) (step_of (A.tables algebra.now) (attributes_of vocabulary.now) cells.now raw.now.at (state_in self.old.state) (bare raw.now)) result self.new }
     {
         if self.state.may_precede(raw.tag) {

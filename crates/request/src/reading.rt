@@ -61,7 +61,7 @@ impl Given {
         raw: &RawField,
         field: Field,
     ) -> Result<(), Refusal>
-        requires len_value { self.old.len ≡ length (attributes_of vocabulary.now) }
+        requires as_many_as_the_attributes { self.old.len ≡ length (attributes_of vocabulary.now) }
         requires parts_fit { PartsFit raw.now.content.now field }
         ensures { Stepped (take_in (attributes_of vocabulary.now) raw.now.at (given_in self.old) (said field.entry)) self.old result self.new }
     {

@@ -88,8 +88,8 @@ impl<'a, T: Copy> Stack<'a, T> {
 
 /// The newest of `len` entries.
 fn newest<T: Copy>(slots: &[T], len: usize) -> T
-    requires len_nonzero { 0 < len }
-    requires len_in_bounds { len ≤ length slots.now }
+    requires has_an_entry { 0 < len }
+    requires entries_are_in_the_slots { len ≤ length slots.now }
     ensures { Newest slots.now len result (len - 1) }
 {
     slots[len - 1]

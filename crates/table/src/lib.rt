@@ -46,8 +46,8 @@ fn find(nodes: &[Node], marking: &Marking, wanted: &Node) -> Option<usize>
 
 /// Writes the wanted record, which no live one is like, into one that is not live, which then is.
 fn store(nodes: &mut [Node], marking: &mut Marking, wanted: &Node) -> Option<u16>
-    requires bytes_len { length marking.old.bytes.now ≡ length nodes.old }
-    requires nodes_len_bound { length nodes.old ≤ 2048 }
+    requires one_byte_a_record { length marking.old.bytes.now ≡ length nodes.old }
+    requires at_most_2048_records { length nodes.old ≤ 2048 }
     requires none_is_alike { NoneIsAlike nodes.old marking.old.bytes.now wanted.now }
     ensures same_bytes { marking.new.bytes.ghost_name ≡ marking.old.bytes.ghost_name }
     ensures found_or_taken { Made nodes.old marking.old.bytes.now nodes.new marking.new.bytes.now wanted.now result }
@@ -61,8 +61,8 @@ fn store(nodes: &mut [Node], marking: &mut Marking, wanted: &Node) -> Option<u16
 
 /// The number of a live record like the wanted one, or of a record that was not live and now holds it.
 pub fn make(nodes: &mut [Node], marking: &mut Marking, wanted: &Node) -> Option<u16>
-    requires bytes_len { length marking.old.bytes.now ≡ length nodes.old }
-    requires nodes_len_bound { length nodes.old ≤ 2048 }
+    requires one_byte_a_record { length marking.old.bytes.now ≡ length nodes.old }
+    requires at_most_2048_records { length nodes.old ≤ 2048 }
     ensures same_bytes { marking.new.bytes.ghost_name ≡ marking.old.bytes.ghost_name }
     ensures found_or_taken { Made nodes.old marking.old.bytes.now nodes.new marking.new.bytes.now wanted.now result }
     ensures stays_sound { (k : ℕ) (shape : List ℕ) → Sound k shape nodes.old (Marked marking.old.bytes.now) → Proper k shape nodes.old (Marked marking.old.bytes.now) wanted.now → StoredWhereAnswered k shape nodes.old marking.old.bytes.now nodes.new marking.new.bytes.now wanted.now result }
@@ -95,9 +95,9 @@ fn record_of(
     cells: u8,
     branches: [Link; 16],
 ) -> Option<Link>
-    requires bytes_len { length marking.old.bytes.now ≡ length nodes.old }
-    requires nodes_len_bound { length nodes.old ≤ 2048 }
-    requires cells_bound { cells ≤ 16 }
+    requires one_byte_a_record { length marking.old.bytes.now ≡ length nodes.old }
+    requires at_most_2048_records { length nodes.old ≤ 2048 }
+    requires at_most_sixteen_cells { cells ≤ 16 }
     requires one_differs { OneDiffers cells branches }
     ensures same_bytes { marking.new.bytes.ghost_name ≡ marking.old.bytes.ghost_name }
     ensures one_link_or_one_record { Reduced nodes.old marking.old.bytes.now nodes.new marking.new.bytes.now level cells branches result }
@@ -115,9 +115,9 @@ pub fn reduce(
     cells: u8,
     branches: [Link; 16],
 ) -> Option<Link>
-    requires bytes_len { length marking.old.bytes.now ≡ length nodes.old }
-    requires nodes_len_bound { length nodes.old ≤ 2048 }
-    requires cells_bound { cells ≤ 16 }
+    requires one_byte_a_record { length marking.old.bytes.now ≡ length nodes.old }
+    requires at_most_2048_records { length nodes.old ≤ 2048 }
+    requires at_most_sixteen_cells { cells ≤ 16 }
     ensures same_bytes { marking.new.bytes.ghost_name ≡ marking.old.bytes.ghost_name }
     ensures one_link_or_one_record { Reduced nodes.old marking.old.bytes.now nodes.new marking.new.bytes.now level cells branches result }
     ensures builds_the_page { (k : ℕ) (shape : List ℕ) (first : List Nodes) (marks : List ℕ) (P : ℕ → List ℕ) → Reducible k shape first (Marked marks) nodes.old (Marked marking.old.bytes.now) level P cells branches → Built k shape first (Marked marks) nodes.new (Marked marking.new.bytes.now) level (runs cells P) result }

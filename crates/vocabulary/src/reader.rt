@@ -79,8 +79,8 @@ impl Attributes {
     }
 
     fn push(&mut self, attribute: Attribute)
-        requires len_bound { self.old.len < 8 }
-        requires kind_bound { self.old.size * cells_in attribute.kind ≤ 4096 }
+        requires room_for_an_attribute { self.old.len < 8 }
+        requires grid_still_fits { self.old.size * cells_in attribute.kind ≤ 4096 }
         ensures { (take self.new.len self.new.items ≡ take self.old.len self.old.items ++ attribute ∷ []) × (self.new.len ≡ self.old.len + 1) }
     {
         self.items[self.len] = attribute;
@@ -144,7 +144,7 @@ impl Reader {
         names: Names,
         value: &[u8],
     ) -> Result<(), Refusal>
-        requires len_bound { self.old.whole.len < 8 }
+        requires room_for_an_attribute { self.old.whole.len < 8 }
         requires named_by { NamedBy sheet.now raw.now value.now }
         ensures { Stepped sheet.now (add_value raw.now.at (attributes_in sheet.now self.old.whole) (name_at sheet.now name) (names_in sheet.now names) value.now) result self.new }
     {
@@ -163,8 +163,8 @@ impl Reader {
 
     /// The cuts of the attribute `name`.
     fn add_cuts(&mut self, raw: &RawField, name: Span, numbers: &[u8]) -> Result<(), Refusal>
-        requires len_bound { self.old.whole.len < 8 }
-        requires numbers_len_bound { length numbers.now / 4 ≤ 17 }
+        requires room_for_an_attribute { self.old.whole.len < 8 }
+        requires at_most_17_cuts { length numbers.now / 4 ≤ 17 }
         ensures { (bs : List ℕ) → Stepped bs (in_grid raw.now.at (attributes_in bs self.old.whole) (length (numbers_of numbers.now) - 1) (bounded (attributes_in bs self.old.whole) (name_at bs name) (numbers_of numbers.now))) result self.new }
     {
         let cuts = Cuts::read(numbers);
@@ -179,7 +179,7 @@ impl Reader {
     fn enter(&mut self, sheet: &[u8], raw: &RawField, field: Field) -> Result<(), Refusal>
         requires room { Room self.old }
         requires ends_within { EndsWithin sheet.now raw.now.at raw.now }
-        requires sheet_len_bound { length sheet.now ≤ 65535 }
+        requires sheet_is_not_too_long { length sheet.now ≤ 65535 }
         requires parts_fit { PartsFit raw.now.content.now field }
         ensures { Stepped sheet.now (enter_of raw.now.at (progress sheet.now self.old) (said field.entry)) result self.new }
     {
@@ -204,7 +204,7 @@ impl Reader {
     pub(crate) fn step(&mut self, sheet: &[u8], raw: &RawField) -> Result<(), Refusal>
         requires room { Room self.old }
         requires ends_within { EndsWithin sheet.now raw.now.at raw.now }
-        requires sheet_len_bound { length sheet.now ≤ 65535 }
+        requires sheet_is_not_too_long { length sheet.now ≤ 65535 }
         ensures { Stepped sheet.now (step_of raw.now.at (progress sheet.now self.old) (bare raw.now)) result self.new }
     {
         match (self.state, raw.tag) {

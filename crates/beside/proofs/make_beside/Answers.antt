@@ -15,15 +15,15 @@ build-requires g c =
     let counts = c.counts-2.ensures in
     let clear = c.new-marking.ensures.starts_clear in
     let many : length c.mark_reached.new.marking.bytes.now ≡ length c.args.nodes.now =
-    c.mark_reached.ensures.as_many_bytes ∙ ap length clear ∙ length-replicate (length bytes) 0 ∙ c.requires.bytes_len
+    c.mark_reached.ensures.as_many_bytes ∙ ap length clear ∙ length-replicate (length bytes) 0 ∙ c.requires.one_byte_a_record
     in
     let few : length c.counts-2.result.now ≤ 8 = omega (arith, ap length counts, how_many_counts shape, shape.few) in
     record {
-      bytes_len = many;
-      nodes_len_bound = c.requires.nodes_len_bound;
+      one_byte_a_record = many;
+      at_most_2048_records = c.requires.at_most_2048_records;
       narrow = subst Narrow (sym counts) (counts_are_narrow shape);
-      counts_len_bound = few;
-      counts_in_bounds = omega (arith, few, c.requires.in_bounds);
+      at_most_eight_attributes = few;
+      one_slot_an_attribute = omega (arith, few, c.requires.eight_slots);
     }
 
 pub returns : goal.returns
@@ -43,7 +43,7 @@ returns g c =
       made_beside_the_roots = λ k sound keep fill stand.
           let closed =
           subst (λ counts. SoundRoots k counts nodes roots → Closed counts nodes roots marks) c.counts.ensures
-          (λ s. c.mark_reached.ensures.just_what_is_reached_is_live k s (clear ∙ ap (λ (n : ℕ). replicate n 0) c.requires.bytes_len)) sound
+          (λ s. c.mark_reached.ensures.just_what_is_reached_is_live k s (clear ∙ ap (λ (n : ℕ). replicate n 0) c.requires.one_byte_a_record)) sound
           in
           walked_beside stands says k (counts_of shape) nodes roots marks c.build.new.nodes c.build.new.marking.bytes.now c.args.start c.build.result (counts_are_filled shape) sound closed
           (subst (WalkBuilds stands says k (counts_of shape) nodes roots marks c.build.new.nodes c.build.new.marking.bytes.now c.args.start c.build.result) c.counts-2.ensures (c.build.ensures.builds_the_page k))

@@ -60,5 +60,5 @@ returns-in-Err g c =
           o.page_is_awaited
           in
           let n = frames-length c.args.stack.now.slots.now c.args.stack.now.len c.args.stack.now.fits in
-          absurd (omega (arith, refused.was_full, c.requires.counts_in_bounds));
+          absurd (omega (arith, refused.was_full, c.requires.one_slot_an_attribute));
     }

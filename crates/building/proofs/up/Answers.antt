@@ -16,7 +16,7 @@ of_the_shape shape j c h = ⊎_elim (λ l. l) (λ l. let z = get_or_past shape j
 pub overflow_add-result : goal.overflow_add-result
 overflow_add-result g c =
     let low = of_the_shape c.args.counts.now c.in-Some.frame.level c.in-Some.frame.cell (search rules) in
-    omega (arith, low, c.requires.counts_len_bound)
+    omega (arith, low, c.requires.at_most_eight_attributes)
 
 pub returns-then-frame-n : goal.returns-then-frame-n
 returns-then-frame-n g c =

@@ -13,4 +13,4 @@ invariant_of-self c =
     let v = c.args.self.now in
     let inside : v.len < length v.items = search rules in
     let held : v.len + 1 ≤ length (set v.items v.len c.args.attribute) = simp length-set (omega arith) in
-    record { few = omega arith; held = held; sized = size_push _ _ _ _ _ inside v.sized c.cells.ensures.0; small = subst (λ (k : ℕ). v.size * k ≤ 4096) (sym c.cells.ensures.0) c.requires.kind_bound }
+    record { few = omega arith; held = held; sized = size_push _ _ _ _ _ inside v.sized c.cells.ensures.0; small = subst (λ (k : ℕ). v.size * k ≤ 4096) (sym c.cells.ensures.0) c.requires.grid_still_fits }

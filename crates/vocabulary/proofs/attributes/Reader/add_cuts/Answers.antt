@@ -18,5 +18,5 @@ returns c bs = (
       (ap (λ zs. length zs - 1) (sym c.read-cuts.ensures) ∙ ap (λ (n : ℕ). n - 1) (how_many_cuts c.read-cuts.result) ∙ sym c.saturating_sub.ensures)
       c.if-self-saturating_sub-gt4096.false
       ∙ ap (λ zs. Ok (bounded (attributes_in bs c.args.self.now.whole) (name_at bs c.args.name) zs)) (sym c.read-cuts.ensures),
-  (c.requires.len_bound, subst (λ (k : ℕ). c.args.self.now.whole.size * k ≤ 4096) c.saturating_sub.ensures c.if-self-saturating_sub-gt4096.false),
+  (c.requires.room_for_an_attribute, subst (λ (k : ℕ). c.args.self.now.whole.size * k ≤ 4096) c.saturating_sub.ensures c.if-self-saturating_sub-gt4096.false),
 )

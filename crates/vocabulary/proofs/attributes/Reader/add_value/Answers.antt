@@ -40,5 +40,5 @@ returns c =
       value_new c.args.raw.now.at _ _ names c.args.value.now few (known_by c.args.value.now names c.find.result false c.find.ensures c.if-is_some.ensures)
           ∙ grid_fits c.args.raw.now.at _ _ _ _ _ (size_of bs c.args.self.now.whole) one c.if-self-names-gt4096.false
           ∙ ap (λ ns. Ok (listing (attributes_in bs c.args.self.now.whole) (name_at bs c.args.name) ns)) more,
-      (c.requires.len_bound, subst (λ (k : ℕ). c.args.self.now.whole.size * k ≤ 4096) (sym c.with.ensures.1) c.if-self-names-gt4096.false),
+      (c.requires.room_for_an_attribute, subst (λ (k : ℕ). c.args.self.now.whole.size * k ≤ 4096) (sym c.with.ensures.1) c.if-self-names-gt4096.false),
     )
