@@ -4,7 +4,7 @@
 Words are in snake case: `layerOf` becomes `layer_of`, and a dash becomes `_`, as in `size_at_least_2`.
 A dash stays only in a lemma between two functions that it relates, as in `length-map`.
 A lemma that would get the name of a definition or of a function of src/ ends in `_lem`.
-Run once, at the top, right after /opt/rattle/port/port.py; --list prints the names and changes nothing.
+Run once, at the top, right after the toolchain's port.py; --list prints the names and changes nothing.
 """
 
 import collections
