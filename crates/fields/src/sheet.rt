@@ -1,7 +1,7 @@
 //! A sheet, field by field.
-ghost use Rattle.std.specs.Prelude.{◌≡◌, ◌-◌, length};
+ghost use Rattle.std.specs.Prelude.{◌-◌, length};
 ghost use Rattle.std.specs.Iterator.{at_most};
-ghost use Rattle.fields.specs.Sheet.{NextField, OpensSheet};
+ghost use Rattle.fields.specs.Sheet.{StandsAt, NextField, OpensSheet};
 
 use crate::RawField;
 use crate::raw::next_field;
@@ -20,8 +20,7 @@ pub struct Fields<'a> {
 impl<'a> Fields<'a> {
     /// The fields from a place on.
     pub fn from_place(bytes: &'a [u8], at: usize) -> Fields<'a>
-        ensures of_these_bytes { result.bytes.now ≡ bytes.now }
-        ensures from_the_place { result.at ≡ at }
+        ensures { StandsAt bytes.now at result }
     {
         Fields { bytes, at }
     }
