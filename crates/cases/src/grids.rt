@@ -54,7 +54,7 @@ fn numbers(rt: HostRuntime) -> Result<(), Fail> {
         ("2 3 1 2 2 4 5 2", 960, false),
     ] {
         let shape = shape_of(rt.alloc(), words)?;
-        assert!(rt; shape.size() == size && shape.same(&example) == same);
+        assert!(rt; shape.size() == size && (shape == example) == same);
         check_numbers(&rt, rt.alloc(), &shape)?;
     }
     Ok(())

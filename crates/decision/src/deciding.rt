@@ -14,7 +14,7 @@ use crate::differing::differences_of;
 use crate::{Line, Report};
 use algebra::permit_deny::PermitDeny;
 use fields::RawField;
-use fields::raw::next_field;
+use fields::sheet::Fields;
 use location::Failure;
 use location::finding::{find, vocabulary_field};
 use policy::walking::check;
@@ -70,11 +70,9 @@ pub fn decide(heap: Global, input: &[u8]) -> Result<Report, Failure>
         sheets: Vec::new(heap),
         lines: Vec::new(heap),
     };
-    let mut at = first.next;
-    while at < input.len() {
-        let raw = next_field(input, at)?;
+    for raw in Fields::from_place(input, first.next) {
+        let raw = raw?;
         arrived.serve(heap, &vocabulary, &raw)?;
-        at = raw.next;
     }
     let Arrived { sheets, lines } = arrived;
     let differences = differences_of(heap, &vocabulary, sheets.as_slice())?;

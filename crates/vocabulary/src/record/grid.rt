@@ -1,5 +1,8 @@
 //! The shape of a vocabulary: cells by grid number, and grid numbers by cells.
 ghost use Rattle.std.specs.Prelude.{◌≡◌, ◌≤◌, length, Decides};
+ghost use Rattle.std.specs.Str.{bytes_eq};
+ghost use Rattle.std.specs.Cmp.Rules.{comparing};
+ghost use Rattle.std.proofs.Common.{rules};
 ghost use Rattle.std.specs.Option.{option_map};
 ghost use Rattle.vocabulary.specs.Grid.{grid, count_if, number_if, cells_if};
 ghost use Rattle.vocabulary.specs.Vocabulary.{shape_of};
@@ -22,6 +25,24 @@ impl Vocabulary<'_> {
             size: self.attributes.size,
         }
     }
+}
+
+/// Shapes are equal where they have the same counts.
+impl PartialEq for Shape {
+    ghost eq = { λ a b. bytes_eq (counts_of a) (counts_of b) };
+
+    ghost laws = { Prim.search (comparing, rules) };
+
+    fn eq(&self, other: &Shape) -> bool
+        ensures compares_the_counts { result ≡ bytes_eq (counts_of self.now) (counts_of other.now) }
+        ensures true_just_where_they_are_the_same { Decides result (counts_of self.now ≡ counts_of other.now) }
+    {
+        self.counts() == other.counts()
+    }
+}
+
+impl Eq for Shape {
+    ghost laws = { Prim.search (comparing, rules) };
 }
 
 impl Shape {
@@ -54,13 +75,6 @@ impl Shape {
         ensures { result ≡ count_if (counts_of self.now) i }
     {
         self.counts().get(i).copied()
-    }
-
-    /// Whether the other shape has the same counts.
-    pub fn same(&self, other: &Shape) -> bool
-        ensures { Decides result (counts_of self.now ≡ counts_of other.now) }
-    {
-        self.counts() == other.counts()
     }
 
     /// The grid number of cells, with the last attribute fastest; none where a cell is missing, too many or not below its count.

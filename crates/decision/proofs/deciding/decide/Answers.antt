@@ -4,7 +4,7 @@ use Rattle.fields.specs.Parts.{list_now}
 use Rattle.fields.specs.Shown.{bare}
 use Rattle.vocabulary.specs.Vocabulary.{vocabulary_of}
 use Rattle.vocabulary.specs.Record.{attributes_of}
-use Rattle.location.proofs.Serving.{served_from, first_refused, vocabulary_refused, vocabulary_read, field_truncated, field_refused, field_served, input_ended, refusal_handed_on, failure_handed_on}
+use Rattle.location.proofs.Serving.{ServedSoFar, served_to, first_refused, vocabulary_refused, vocabulary_read, field_truncated, field_refused, field_served, input_ended, refusal_handed_on, failure_handed_on}
 use Rattle.decision.specs.Differing.{differences_from}
 use Rattle.decision.specs.Decided.{nothing_yet, serve, reported}
 use Rattle.decision.specs.Shown.{line_shown}
@@ -22,54 +22,43 @@ returns-in_err-read c =
     let p = err_from_is_err_and c.from_residual-in_err-read.result c.from_residual-in_err-read.ensures.1 in
     refusal_handed_on _ _ _ _ p.1 _ p.2
     (vocabulary_refused nothing_yet serve reported c.args.input.now (bare first) first.next c.in_ok-first.ensures.field_is_the_first _
-    (ap vocabulary_of (sym c.new-vocabulary.ensures.0) ∙ c.in_err-read.ensures.1))
+    (ap vocabulary_of (sym c.new-vocabulary.ensures.same_sheet) ∙ c.in_err-read.ensures.1))
 
-pub loop-at-init : goal.loop-at-init
-loop-at-init c =
+pub loop-raw-init : goal.loop-raw-init
+loop-raw-init c =
     let bs = c.args.input.now in
     let first = c.in_ok-first.first in
-    let told = c.in_ok-first.ensures in
     let v = attributes_of c.read.new.self in
-    let none : nothing_yet ≡ arrived_shown (record { sheets = c.new.result; lines = c.new-2.result }) =
-    ap₂ (λ ss ls. record { sheets = map list_now ss; lines = map line_shown ls }) (sym c.new.ensures.items) (sym c.new-2.ensures.items)
-    in (
-      told.field_ends_within.within,
-      vocabulary_read nothing_yet serve reported bs (bare first) first.next told.field_is_the_first v (ap vocabulary_of (sym c.new-vocabulary.ensures.0) ∙ c.in_ok-read.ensures.1)
-          ∙ ap (served_from nothing_yet serve reported bs (v, first.next)) none,
-    )
+    let none : arrived_shown (record { sheets = c.new.result; lines = c.new-2.result }) ≡ nothing_yet =
+    ap₂ (λ ss ls. record { sheets = map list_now ss; lines = map line_shown ls }) c.new.ensures.items c.new-2.ensures.items
+    in
+    let opened = vocabulary_read nothing_yet serve reported bs (bare first) first.next c.in_ok-first.ensures.field_is_the_first v (ap vocabulary_of (sym c.new-vocabulary.ensures.same_sheet) ∙ c.in_ok-read.ensures.1) in
+    served_to nothing_yet serve reported bs v first.next _ _ nothing_yet _ opened c.from_place-raw-items.ensures c.into_iter-raw-iterator.ensures.into_iter_gives none
 
 pub returns-in_err-raw : goal.returns-in_err-raw
 returns-in_err-raw c =
     let p = err_from_is_err_and c.from_residual-in_err-raw.result c.from_residual-in_err-raw.ensures.1 in
     refusal_handed_on _ _ _ _ p.1 _ p.2
-    (field_truncated nothing_yet serve reported c.args.input.now _ _ _ c.loop-at.invariant.1 c.loop-at-test.true _ c.in_err-raw.ensures.field_is_the_one_at_the_place)
+    (field_truncated nothing_yet serve reported c.args.input.now _ _ _ c.loop-raw.invariant c.in-Some.raw _ c.next.new.self c.in-Some.ensures.steps c.in_err-raw.was)
 
 pub returns-in_err-serve : goal.returns-in_err-serve
 returns-in_err-serve c =
     let p = err_from_is_err_and c.from_residual-in_err-serve.result c.from_residual-in_err-serve.ensures.1 in
     let raw = c.in_ok-raw.raw in
-    let told = c.in_ok-raw.ensures in
     let v = attributes_of c.read.new.self in
-    let a = arrived_shown c.loop-at.arrived in
+    let a = arrived_shown c.loop-raw.arrived in
     failure_handed_on _ _ _ _ p.1 (λ (_ : Unit {0}). a) (serve raw.at v a (bare raw)) _ p.2 c.in_err-serve.ensures
-    (λ t e.
-    field_refused nothing_yet serve reported c.args.input.now v _ a c.loop-at.invariant.1 c.loop-at-test.true (bare raw) raw.next told.field_is_the_one_at_the_place t
-    (e ∙ ap (λ at. serve at v a (bare raw)) told.field_ends_within.place_is))
+    (field_refused nothing_yet serve reported c.args.input.now v _ a c.loop-raw.invariant c.in-Some.raw raw c.next.new.self c.in-Some.ensures.steps c.in_ok-raw.was)
 
-pub loop-at-preserved : goal.loop-at-preserved
-loop-at-preserved c =
-    let raw = c.in_ok-raw.raw in
-    let told = c.in_ok-raw.ensures in
+pub loop-raw-preserved : goal.loop-raw-preserved
+loop-raw-preserved c =
     let v = attributes_of c.read.new.self in
-    let a = arrived_shown c.loop-at.arrived in (
-      told.field_ends_within.within,
-      field_served nothing_yet serve reported c.args.input.now v _ a c.loop-at.invariant.1 c.loop-at-test.true (bare raw) raw.next told.field_is_the_one_at_the_place _
-          (c.in_ok-serve.ensures ∙ ap (λ at. serve at v a (bare raw)) told.field_ends_within.place_is),
-    )
+    let a = arrived_shown c.loop-raw.arrived in
+    field_served nothing_yet serve reported c.args.input.now v _ a c.loop-raw.invariant c.in-Some.raw c.in_ok-raw.raw c.next.new.self c.in-Some.ensures.steps c.in_ok-raw.was _ c.in_ok-serve.ensures
 
 pub returns : goal.returns
 returns c =
     let v = attributes_of c.read.new.self in
-    let a = arrived_shown c.loop-at.arrived in
+    let a = arrived_shown c.loop-raw.arrived in
     ap (λ ds. Ok (record { lines = a.lines; differences = ds })) (c.in_ok-differences.ensures ∙ ap (λ ss. differences_from v 0 (map list_now ss)) c.as_slice.ensures.value)
-    ∙ input_ended nothing_yet serve reported c.args.input.now v _ a c.loop-at.invariant.1 c.loop-at-test.false
+    ∙ input_ended nothing_yet serve reported c.args.input.now v _ a c.loop-raw.invariant c.in-None.ensures.steps.1
