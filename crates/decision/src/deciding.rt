@@ -64,8 +64,7 @@ pub fn decide(heap: Global, input: &[u8]) -> Result<Report, Failure>
     ensures { Answered report_shown result (decided input.now) }
 {
     let first = vocabulary_field(input)?;
-    let mut vocabulary = Vocabulary::new(first.content);
-    vocabulary.read()?;
+    let vocabulary = Vocabulary::of_sheet(first.content)?;
     let mut arrived = Arrived {
         sheets: Vec::new(heap),
         lines: Vec::new(heap),

@@ -48,8 +48,7 @@ pub fn locate(heap: Global, input: &[u8]) -> Result<Vec<Location>, Failure>
     ensures { Answered (λ v. map place_shown v.items) result (located input.now) }
 {
     let first = vocabulary_field(input)?;
-    let mut vocabulary = Vocabulary::new(first.content);
-    vocabulary.read()?;
+    let vocabulary = Vocabulary::of_sheet(first.content)?;
     let mut locations = Vec::new(heap);
     for raw in Fields::from_place(input, first.next) {
         let raw = raw?;

@@ -1,5 +1,5 @@
 //! Reading a whole vocabulary.
-ghost use Rattle.std.specs.Prelude.{◌≡◌, [], length};
+ghost use Rattle.std.specs.Prelude.{◌≡◌, [], length, IfOk};
 ghost use Rattle.short_list.specs.Items.{items_of};
 ghost use Rattle.refusal.specs.Answers.{answer_by};
 ghost use Rattle.vocabulary.specs.Vocabulary.{vocabulary_of, finish as finish_of};
@@ -56,11 +56,20 @@ impl<'a> Vocabulary<'a> {
         Vocabulary::unread(sheet, Attributes::none())
     }
 
+    /// The vocabulary that a sheet lays down.
+    pub fn of_sheet(sheet: &'a [u8]) -> Result<Vocabulary<'a>, Refusal>
+        ensures attributes_are_those_laid_down { answer_by attributes_of result ≡ vocabulary_of sheet.now }
+        ensures same_sheet { IfOk result (λ v. v.sheet.now ≡ sheet.now) }
+    {
+        let attributes = attributes(sheet)?;
+        Ok(Vocabulary { sheet, attributes })
+    }
+
     /// Reads the sheet in place; at a refusal the vocabulary stays as it was.
     pub fn read(&mut self) -> Result<(), Refusal>
         ensures { ReadInPlace self.old result self.new }
     {
-        self.attributes = attributes(self.sheet)?;
+        *self = Vocabulary::of_sheet(self.sheet)?;
         Ok(())
     }
 }
