@@ -1,17 +1,25 @@
 -- A copy that is filled entry by entry means the tables that it was filled from.
-use Rattle.std.proofs.Common.{◌≡◌, ℕ, ◌+◌, ◌*◌, ◌/◌, ◌%◌, ◌<◌, ◌≤◌, ◌≢◌, List, length, get_or, set, sym, ap, ◌∙◌, ⊎_elim, arith, length-set, get_or-set_other, get_or-set_same, below_more, le-ltb, lt-ltb}
+use Rattle.std.proofs.Common.{◌≡◌, ℕ, ◌+◌, ◌*◌, ◌/◌, ◌%◌, ◌<◌, ◌≤◌, List, get_or, sym, ap, ◌∙◌, subst, ⊎_elim, arith, eq-or-lt_of_le, le-ltb, lt-ltb, zero, suc}
+use denote.Param.Members.{Mut}
+use Rattle.std.specs.Fn.{Called}
+use Rattle.std.specs.Array.{IsFromFnResult, IsFromFnResultFrom}
 use Rattle.std.proofs.lemmas.Bool.{cases_lt}
 use Rattle.algebra.specs.Laws.{ShortCutLaws}
 use Rattle.algebra.specs.Layout.{entry, laid_out}
 use Rattle.algebra.specs.Tables.{Tables, square, row}
 
--- A write at i keeps what stands before i.
-pub one_more : (xs : List ℕ) (i v n : ℕ) (f : ℕ → ℕ) → length xs ≡ n → i < n → v ≡ f i → ((k : ℕ) → k < i → get_or xs k 0 ≡ f k) → (length (set xs i v) ≡ n) × ((k : ℕ) → k < i + 1 → get_or (set xs i v) k 0 ≡ f k)
-one_more xs i v n f long lt e before =
-    let il : i < length xs = omega arith in (
-      length-set xs i v ∙ long,
-      below_more _ _ (λ k h. let ne : k ≢ i = omega arith in rw get_or-set_other (before k h)) (get_or-set_same xs i v 0 il ∙ e),
-    )
+-- Calls at the indices from i on made an array, and each left the closure as it was: the array holds what they answered.
+answered_from : {F : Type 0} (g : Mut F (ℕ × Unit {0}) ℕ) (f : F) (answer : ℕ → ℕ) → ((i v : ℕ) (f' : F) → Called g f (i, tt) v f' → (v ≡ answer i) × (f' ≡ f)) → (xs : List ℕ) (n i : ℕ) → IsFromFnResultFrom g f xs i n → (k : ℕ) → i ≤ k → k < i + n → get_or xs k 0 ≡ answer k
+answered_from g f answer one xs zero i calls k from below = absurd (omega arith)
+answered_from {F = F} g f answer one xs (suc n) i (f', v, at, call, rest) k from below =
+    let called = one i v f' call in
+    ⊎_elim (λ (e : i ≡ k). ap (λ m. get_or xs m 0) (sym e) ∙ at.1 0 ∙ called.0 ∙ ap answer e)
+    (λ (l : i < k). answered_from g f answer one xs n (i + 1) (subst (λ (h : F). IsFromFnResultFrom g h xs (i + 1) n) called.1 rest) k (omega arith) (omega arith))
+    (eq-or-lt_of_le from)
+
+-- The same of the whole array.
+pub answered : {F : Type 0} {g : Mut F (ℕ × Unit {0}) ℕ} {f : F} {xs : List ℕ} {n : ℕ} (answer : ℕ → ℕ) → IsFromFnResult g f xs n → ((i v : ℕ) (f' : F) → Called g f (i, tt) v f' → (v ≡ answer i) × (f' ≡ f)) → (i : ℕ) → i < n → get_or xs i 0 ≡ answer i
+answered {g = g} {f = f} {xs = xs} {n = n} answer calls one i lt = answered_from g f answer one xs n 0 calls.each i (omega arith) (omega arith)
 
 -- the list holds every row of the table f
 abbrev pub Holds : List ℕ → (ℕ → ℕ → ℕ) → Type 0

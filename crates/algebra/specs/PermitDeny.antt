@@ -1,14 +1,19 @@
 -- The algebra of permit, code 1, and deny, code 2.
-use Rattle.std.specs.Prelude.{ℕ, cond, List, [], ◌∷◌, ◌==◌, slice_index, slice_index_or}
+use Rattle.std.specs.Prelude.{◌≡◌, ℕ, ◌≤◌, cond, List, [], ◌∷◌, ◌==◌, Result, MatchResult, slice_index, slice_index_or}
 use Rattle.algebra.specs.Tables.{Tables, bounded}
 use Rattle.algebra.specs.declared.permit_deny.Decision.{Decision}
 use Rattle.algebra.specs.declared.permit_deny.Decision.TheVariants.{NotApplicable, Permit, Deny}
+use Rattle.algebra.specs.declared.permit_deny.NoDecision.{NoDecision}
 
 -- the code of a decision
 abbrev pub code_of : Decision → ℕ
 code_of NotApplicable = 0
 code_of Permit = 1
 code_of Deny = 2
+
+-- a code is the one of the decision that comes back, or none has it
+abbrev pub Decoded : ℕ → Result Decision NoDecision → Type 0
+Decoded code r = MatchResult r (λ d. code_of d ≡ code) (λ e. (e.0 ≡ code) × (3 ≤ code))
 
 -- what stands in a row and a column
 abbrev pub at : List (List ℕ) → ℕ → ℕ → ℕ

@@ -5,6 +5,7 @@ ghost use Rattle.algebra.specs.Layout.{laid_out};
 ghost use Rattle.algebra.specs.Truncated as truncated;
 
 use crate::Algebra;
+use std::array;
 
 /// The tables of an algebra, in rows of sixteen.
 #[derive(Clone, Copy)]
@@ -23,15 +24,11 @@ impl CopiedTables {
     pub fn of<G: Algebra>(algebra: &G) -> CopiedTables
         ensures { laid_out result.size result.sums result.meets result.negations ≡ G.tables algebra.now }
     {
-        let size = algebra.size();
-        let sums = sums_of(algebra);
-        let meets = meets_of(algebra);
-        let negations = negations_of(algebra);
         CopiedTables {
-            size,
-            sums,
-            meets,
-            negations,
+            size: algebra.size(),
+            sums: array::from_fn(|i| algebra.sum((i / 16) as u8, (i % 16) as u8)),
+            meets: array::from_fn(|i| algebra.meet((i / 16) as u8, (i % 16) as u8)),
+            negations: negations_of(algebra),
         }
     }
 }
@@ -72,35 +69,9 @@ impl Algebra for CopiedTables {
     }
 }
 
-/// The sums, row after row.
-fn sums_of<G: Algebra>(algebra: &G) -> [u8; 256]
-    ensures { (i : ℕ) → i < 256 → slice_index result i ≡ (G.tables algebra.now).sum (i / 16) (i % 16) }
-{
-    let mut rows = [0u8; 256];
-    for i in 0..256usize {
-        rows[i] = algebra.sum((i / 16) as u8, (i % 16) as u8);
-    }
-    rows
-}
-
-/// The meets, row after row.
-fn meets_of<G: Algebra>(algebra: &G) -> [u8; 256]
-    ensures { (i : ℕ) → i < 256 → slice_index result i ≡ (G.tables algebra.now).meet (i / 16) (i % 16) }
-{
-    let mut rows = [0u8; 256];
-    for i in 0..256usize {
-        rows[i] = algebra.meet((i / 16) as u8, (i % 16) as u8);
-    }
-    rows
-}
-
-/// The negations.
+/// The negations, in the order of the codes.
 fn negations_of<G: Algebra>(algebra: &G) -> [u8; 16]
     ensures { (i : ℕ) → i < 16 → slice_index result i ≡ (G.tables algebra.now).negation i }
 {
-    let mut row = [0u8; 16];
-    for i in 0..16usize {
-        row[i] = algebra.negation(i as u8);
-    }
-    row
+    array::from_fn(|a| algebra.negation(a as u8))
 }

@@ -1,10 +1,11 @@
 //! The algebra of permit and deny.
-ghost use Rattle.std.specs.Prelude.{◌≡◌, ◌≤◌, MatchOption};
-ghost use Rattle.algebra.specs.PermitDeny.{code_of, permit_deny, at, sum_rows, meet_rows, exchanged};
+ghost use Rattle.std.specs.Prelude.{◌≡◌};
+ghost use Rattle.algebra.specs.PermitDeny.{code_of, Decoded, permit_deny, at, sum_rows, meet_rows, exchanged};
 ghost use Rattle.algebra.specs.Computed.{short_cuts_of, regrouping_of};
 ghost use Rattle.algebra.specs.PermitDenyAlgebraLemmas.{tested};
 
 use crate::Algebra;
+use std::error::Error;
 use std::fmt;
 
 /// A decision of the algebra of permit and deny.
@@ -15,27 +16,31 @@ pub enum Decision {
     Deny,
 }
 
-impl Decision {
-    /// The code of this decision.
-    pub fn code(self) -> u8
-        ensures { result ≡ code_of self }
-    {
-        match self {
-            Decision::NotApplicable => 0,
-            Decision::Permit => 1,
-            Decision::Deny => 2,
-        }
-    }
+/// A code that no decision has.
+#[derive(Clone, Copy, PartialEq, Eq, Debug)]
+pub struct NoDecision(pub u8);
 
-    /// The decision of a code, if it has one.
-    pub fn of_code(code: u8) -> Option<Decision>
-        ensures { MatchOption result (3 ≤ code) (λ d. code_of d ≡ code) }
-    {
+/// The code of a decision.
+impl From<Decision> for u8 {
+    ghost from_gives = { λ d code. code ≡ code_of d };
+
+    fn from(decision: Decision) -> u8 {
+        decision as u8
+    }
+}
+
+/// The decision of a code, if it has one.
+impl TryFrom<u8> for Decision {
+    type Error = NoDecision;
+
+    ghost try_from_gives = { Decoded };
+
+    fn try_from(code: u8) -> Result<Decision, NoDecision> {
         match code {
-            0 => Some(Decision::NotApplicable),
-            1 => Some(Decision::Permit),
-            2 => Some(Decision::Deny),
-            _ => None,
+            0 => Ok(Decision::NotApplicable),
+            1 => Ok(Decision::Permit),
+            2 => Ok(Decision::Deny),
+            _ => Err(NoDecision(code)),
         }
     }
 }
@@ -50,6 +55,14 @@ impl fmt::Display for Decision {
         })
     }
 }
+
+impl fmt::Display for NoDecision {
+    fn fmt<W: fmt::Write>(&self, f: &mut fmt::Formatter<W>) -> fmt::Result {
+        write!(f, "no decision has code {}", self.0)
+    }
+}
+
+impl Error for NoDecision {}
 
 const SIZE: u8 = 3;
 

@@ -29,7 +29,7 @@ fn check_tables<G: Algebra>(
 ) {
     assert_eq!(rt; algebra.size(), size);
     for a in 0..=255u8 {
-        assert_eq!(rt; algebra.negation(a), entry(negations, size, 0, a));
+        assert_eq!(rt; algebra.negation(a), entry(negations, size, 0, a), "at {a}");
         for b in 0..=255u8 {
             let (left, right) = if a < size && b < size { (a, b) } else { (0, 0) };
             let minus = if right == 0 { left } else { 0 };
@@ -46,7 +46,8 @@ fn check_tables<G: Algebra>(
                     algebra.meet(a, b),
                     algebra.minus(a, b),
                     algebra.precedence(a, b),
-                ] == expected
+                ] == expected,
+                "at {a} and {b}"
             );
         }
     }
@@ -81,14 +82,14 @@ fn tables(rt: HostRuntime) {
 /// Permit and deny agree on nothing and together permit; programs print decisions by their words.
 #[test]
 fn decisions(rt: HostRuntime) -> Result<(), Fail> {
-    let (permit, deny) = (Decision::Permit.code(), Decision::Deny.code());
-    let meet = Decision::of_code(PermitDeny.meet(permit, deny)).ok_or("no decision")?;
-    let sum = Decision::of_code(PermitDeny.sum(deny, permit)).ok_or("no decision")?;
-    let first = Decision::of_code(PermitDeny.precedence(deny, permit)).ok_or("no decision")?;
+    let (permit, deny) = (u8::from(Decision::Permit), u8::from(Decision::Deny));
+    let meet = Decision::try_from(PermitDeny.meet(permit, deny))?;
+    let sum = Decision::try_from(PermitDeny.sum(deny, permit))?;
+    let first = Decision::try_from(PermitDeny.precedence(deny, permit))?;
     assert_eq!(rt;
         format!(in rt.alloc(); "{meet} {sum} {first}")?.as_str(),
         "silence permit deny"
     );
-    assert!(rt; Decision::of_code(3).is_none() & Decision::of_code(255).is_none());
+    assert!(rt; Decision::try_from(3).is_err() & Decision::try_from(255).is_err());
     Ok(())
 }

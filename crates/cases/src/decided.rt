@@ -75,7 +75,11 @@ fn truncated_inputs(rt: HostRuntime) -> Result<(), Fail> {
             48..70 => "10 at 47",
             _ => "10 at 70",
         };
-        assert_eq!(rt; printed(rt.alloc(), &whole[0..len])?.as_str(), expected);
+        assert_eq!(rt;
+            printed(rt.alloc(), &whole[0..len])?.as_str(),
+            expected,
+            "{len} bytes"
+        );
     }
     assert_eq!(rt; printed(rt.alloc(), &whole)?.as_str(), "permit;");
     Ok(())

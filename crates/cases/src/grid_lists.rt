@@ -1,6 +1,6 @@
 //! Grid lists: a code for each grid number.
 use crate::grids::shape_of;
-use crate::policies::check_source;
+use crate::policies::{check_source, codes};
 use crate::sheets::{EXAMPLE, check_refusal};
 use algebra::Algebra;
 use algebra::permit_deny::PermitDeny;
@@ -52,10 +52,7 @@ fn lists(rt: HostRuntime) -> Result<(), Fail> {
         ("012210110", "12 at 0", "12 at 0"),
         ("/012210110", "12 at 0", "12 at 0"),
     ] {
-        let mut list = Vec::new(rt.alloc());
-        for digit in digits.bytes() {
-            list.push(digit.wrapping_sub(b'0'))?;
-        }
+        let list = codes(rt.alloc(), digits)?;
         check_list(&rt, rt.alloc(), shape, &PermitDeny, &list, permit_deny)?;
         check_list(&rt, rt.alloc(), shape, &Stages, &list, stages)?;
     }
@@ -72,10 +69,7 @@ fn largest_list(rt: HostRuntime) -> Result<(), Fail> {
         (4095, 6, "12 at 0"),
         (4097, 6, "12 at 0"),
     ] {
-        let mut list = Vec::new(rt.alloc());
-        for n in 1..len {
-            list.push((n % 7) as u8)?;
-        }
+        let mut list: Vec<u8> = (1..len).map(|n| (n % 7) as u8).collect(rt.alloc())?;
         list.push(last)?;
         check_list(&rt, rt.alloc(), shape, &Stages, &list, expected)?;
     }

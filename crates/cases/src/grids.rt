@@ -7,13 +7,12 @@ use vocabulary::record::{Shape, Vocabulary};
 
 /// The next cells, the last attribute fastest.
 fn advance(cells: &mut [u8], counts: &[u8]) {
-    for i in (0..cells.len()).rev() {
-        let next = cells[i].saturating_add(1);
-        if next < counts.get(i).copied().unwrap_or(0) {
-            cells[i] = next;
+    for (cell, count) in cells.iter_mut().zip(counts).rev() {
+        *cell = cell.saturating_add(1);
+        if *cell < *count {
             return;
         }
-        cells[i] = 0;
+        *cell = 0;
     }
 }
 
@@ -21,9 +20,7 @@ fn advance(cells: &mut [u8], counts: &[u8]) {
 fn check_numbers(rt: &impl Abort, heap: Global, shape: &Shape) -> Result<(), Fail> {
     let mut cells = vec![in heap; 0u8; shape.len()]?;
     for n in 0..shape.size() {
-        let Some(found) = shape.cells(n) else {
-            return Err(Fail::new("no cells"));
-        };
+        let found = shape.cells(n).ok_or("no cells")?;
         assert!(rt; found.as_slice() == cells.as_slice());
         assert_eq!(rt; shape.number(&cells), Some(n));
         advance(&mut cells, shape.counts());
@@ -54,7 +51,10 @@ fn numbers(rt: HostRuntime) -> Result<(), Fail> {
         ("2 3 1 2 2 4 5 2", 960, false),
     ] {
         let shape = shape_of(rt.alloc(), words)?;
-        assert!(rt; shape.size() == size && (shape == example) == same);
+        assert!(rt;
+            shape.size() == size && (shape == example) == same,
+            "{words}"
+        );
         check_numbers(&rt, rt.alloc(), &shape)?;
     }
     Ok(())

@@ -65,7 +65,7 @@ fn inputs(rt: HostRuntime) -> Result<(), Fail> {
     ] {
         let answer = printed(rt.alloc(), &input(rt.alloc(), text)?)?;
         assert!(rt; answer.as_str().starts_with(expected), "{}", text);
-        assert_eq!(rt; answer.is_empty(), expected.is_empty());
+        assert_eq!(rt; answer.is_empty(), expected.is_empty(), "{}", text);
     }
     Ok(())
 }
@@ -81,8 +81,8 @@ fn truncated_inputs(rt: HostRuntime) -> Result<(), Fail> {
             47 => "",
             _ => "refused 10 47:",
         };
-        assert!(rt; answer.as_str().starts_with(expected));
-        assert_eq!(rt; answer.is_empty(), expected.is_empty());
+        assert!(rt; answer.as_str().starts_with(expected), "{len} bytes");
+        assert_eq!(rt; answer.is_empty(), expected.is_empty(), "{len} bytes");
     }
     Ok(())
 }

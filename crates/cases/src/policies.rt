@@ -6,19 +6,21 @@ use policy::counting::count_decisions;
 use policy::policy_sheet::PolicySheet;
 use policy::source::Source;
 use policy::walking;
-use std::alloc::Global;
+use std::alloc::{AllocError, Global};
 use std::process::Abort;
 use std::test::Fail;
 use vocabulary::record::Vocabulary;
 
+/// The codes that are written as digits; `/` is the code 255.
+pub(crate) fn codes(heap: Global, digits: &str) -> Result<Vec<u8>, AllocError> {
+    digits
+        .bytes()
+        .map(|digit| digit.wrapping_sub(b'0'))
+        .collect(heap)
+}
+
 fn how_many(page: &[u8], code: usize) -> usize {
-    let mut count = 0usize;
-    for other in page {
-        if *other as usize == code {
-            count = count.saturating_add(1);
-        }
-    }
-    count
+    page.iter().filter(|other| **other as usize == code).count()
 }
 
 /// A source decides a page: each code at its grid number, and 0 beyond the grid. The counts are those of the page.
@@ -29,13 +31,13 @@ pub(crate) fn check_source<S: Source>(
 ) -> Result<(), Fail> {
     assert_eq!(rt; source.shape().size(), page.len());
     for (number, code) in page.iter().enumerate() {
-        assert_eq!(rt; source.consult(number), *code);
+        assert_eq!(rt; source.consult(number), *code, "at {number}");
     }
     for number in [page.len(), page.len().saturating_add(1), usize::MAX] {
-        assert_eq!(rt; source.consult(number), 0);
+        assert_eq!(rt; source.consult(number), 0, "at {number}");
     }
     for (code, count) in count_decisions(source).iter().enumerate() {
-        assert_eq!(rt; *count, how_many(page, code));
+        assert_eq!(rt; *count, how_many(page, code), "of {code}");
     }
     Ok(())
 }
@@ -50,7 +52,7 @@ pub(crate) fn check_decided<'a, A: Algebra>(
 ) -> Result<(), Fail> {
     for (number, code) in page.iter().enumerate() {
         let decision = walking::decide_number(algebra, vocabulary, bytes, number);
-        assert_eq!(rt; decision, *code);
+        assert_eq!(rt; decision, *code, "at {number}");
     }
     let mut source = PolicySheet::new(algebra, vocabulary, bytes);
     assert_eq!(rt; source.size(), algebra.size());
@@ -68,16 +70,13 @@ pub(crate) fn check_policy<'a, A: Algebra>(
 ) -> Result<(), Fail> {
     let mut vocabulary = Vocabulary::new(words);
     vocabulary.read()?;
-    let mut page = vec![in heap; 0u8; vocabulary.shape().size()]?;
-    match walking::check(algebra, &vocabulary, bytes) {
-        Ok(()) => {
-            page.clear();
-            for digit in expected.bytes() {
-                page.push(digit.wrapping_sub(b'0'))?;
-            }
+    let page = match walking::check(algebra, &vocabulary, bytes) {
+        Ok(()) => codes(heap, expected)?,
+        Err(refusal) => {
+            check_refusal(rt, heap, refusal, expected)?;
+            vec![in heap; 0u8; vocabulary.shape().size()]?
         }
-        Err(refusal) => check_refusal(rt, heap, refusal, expected)?,
-    }
+    };
     check_decided(rt, algebra, &vocabulary, bytes, &page)
 }
 

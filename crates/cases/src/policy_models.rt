@@ -40,26 +40,20 @@ impl Rule {
 /// Of the rules that match the first, the lowest, the only and the highest decision: in both algebras a sum is the lower
 /// of two codes that are not 0, and negation turns their order round.
 fn decided(rules: &[Rule], way: u8, first: u8, second: u8) -> u8 {
-    let (mut earliest, mut lowest, mut highest) = (0, 0, 0);
-    let mut count = 0usize;
-    for rule in rules {
-        if rule.matches(first, second) {
-            if count == 0 {
-                earliest = rule.decision;
-                lowest = rule.decision;
-            }
-            lowest = rule.decision.min(lowest);
-            highest = rule.decision.max(highest);
-            count = count.saturating_add(1);
-        }
-    }
-    match (way, count) {
-        (1, _) => earliest,
-        (2, _) => lowest,
-        (3, 1) => earliest,
-        (3, _) => 0,
-        _ => highest,
-    }
+    let mut matching = rules
+        .iter()
+        .filter(|rule| rule.matches(first, second))
+        .map(|rule| rule.decision);
+    let decision = match way {
+        1 => matching.next(),
+        2 => matching.min(),
+        3 => match (matching.next(), matching.next()) {
+            (only, None) => only,
+            _ => None,
+        },
+        _ => matching.max(),
+    };
+    decision.unwrap_or(0)
 }
 
 fn add_conditions(bytes: &mut Vec<u8>, attribute: u8, named: u8) -> Result<(), AllocError> {

@@ -1,5 +1,4 @@
 //! Numbers, layers and sentences of the causes.
-use crate::sheets::tens;
 use refusal::Cause;
 use std::test::Fail;
 
@@ -58,7 +57,7 @@ const SENTENCES: &str = "1 10: the bytes end inside a field or before the sheet 
 fn causes(rt: HostRuntime) -> Result<(), Fail> {
     assert_eq!(rt; SENTENCES.lines().count(), CAUSES.len());
     for (cause, line) in CAUSES.iter().zip(SENTENCES.lines()) {
-        let layer = tens(cause.layer());
+        let layer = cause.layer() as u8;
         let number = cause.number();
         assert_eq!(rt;
             format!(in rt.alloc(); "{layer} {number}: {cause}")?.as_str(),

@@ -1,6 +1,7 @@
 //! Vocabularies and requests, with the answers that the rules lay down.
 use crate::sheets::{EXAMPLE, check_row};
 use std::alloc::Global;
+use std::ops::RangeInclusive;
 use std::process::Abort;
 use std::test::Fail;
 
@@ -190,50 +191,51 @@ fn vocabularies_and_requests(rt: HostRuntime) -> Result<(), Fail> {
     Ok(())
 }
 
-/// Each of the 256 tags in a field without content, behind every tag and at the start: unless it is one of two, the tag is refused, and else the length.
-#[test]
-fn tags(rt: HostRuntime) -> Result<(), Fail> {
-    for (before, place, first, second) in [
-        ("", 0, 0x10u8, 0x10u8),
-        ("10:a", 4, 0x11, 0x12),
-        ("1", 8, 0x10, 0x11),
-        ("10:a 12:#0#1", 15, 0x10, 0x10),
-        ("|", 0, 0x31, 0x32),
-    ] {
-        for tag in 0..=255u8 {
-            let number = if tag == first || tag == second {
-                12
-            } else {
-                11
-            };
-            check_row(
-                &rt,
-                rt.alloc(),
-                &format!(in rt.alloc(); "{before} {tag:x}: -> {number} at {place}")?,
-            )?;
-        }
+/// Each of the 256 tags in a field without content: unless it may stand at its place, the tag is refused, and else the length.
+fn check_tags(
+    rt: &impl Abort,
+    heap: Global,
+    before: &str,
+    place: usize,
+    may_stand: RangeInclusive<u8>,
+) -> Result<(), Fail> {
+    for tag in 0..=255u8 {
+        let number = if may_stand.contains(&tag) { 12 } else { 11 };
+        check_row(
+            rt,
+            heap,
+            &format!(in heap; "{before} {tag:x}: -> {number} at {place}")?,
+        )?;
     }
     Ok(())
 }
 
-/// The same for policy sheets, where the tags that may stand at a place are in a row.
+/// Tags behind every tag of vocabularies and requests, and at the start.
+#[test]
+fn tags(rt: HostRuntime) -> Result<(), Fail> {
+    for (before, place, may_stand) in [
+        ("", 0, 0x10..=0x10),
+        ("10:a", 4, 0x11..=0x12),
+        ("1", 8, 0x10..=0x11),
+        ("10:a 12:#0#1", 15, 0x10..=0x10),
+        ("|", 0, 0x31..=0x32),
+    ] {
+        check_tags(&rt, rt.alloc(), before, place, may_stand)?;
+    }
+    Ok(())
+}
+
+/// The same for policy sheets.
 #[test]
 fn policy_sheet_tags(rt: HostRuntime) -> Result<(), Fail> {
-    for (before, place, first, last) in [
-        ("|3|", 0, 0x1Fu8, 0x1Fu8),
-        ("|3|1F=1", 4, 0x20, 0x20),
-        ("|3|1F=1 20=1", 8, 0x20, 0x22),
-        ("|3|1F=1 20=1 21:role=home", 20, 0x20, 0x22),
-        ("|3|1F=1 20=1 22:out=#70#350", 23, 0x20, 0x22),
+    for (before, place, may_stand) in [
+        ("|3|", 0, 0x1F..=0x1F),
+        ("|3|1F=1", 4, 0x20..=0x20),
+        ("|3|1F=1 20=1", 8, 0x20..=0x22),
+        ("|3|1F=1 20=1 21:role=home", 20, 0x20..=0x22),
+        ("|3|1F=1 20=1 22:out=#70#350", 23, 0x20..=0x22),
     ] {
-        for tag in 0..=255u8 {
-            let number = if first <= tag && tag <= last { 12 } else { 11 };
-            check_row(
-                &rt,
-                rt.alloc(),
-                &format!(in rt.alloc(); "{before} {tag:x}: -> {number} at {place}")?,
-            )?;
-        }
+        check_tags(&rt, rt.alloc(), before, place, may_stand)?;
     }
     Ok(())
 }

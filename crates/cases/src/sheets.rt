@@ -8,7 +8,7 @@
 use crate::policies::check_policy;
 use algebra::permit_deny::PermitDeny;
 use algebra::stages::Stages;
-use refusal::{Layer, Refusal};
+use refusal::Refusal;
 use request::reading::read_request;
 use std::alloc::{AllocError, Global};
 use std::process::Abort;
@@ -32,8 +32,9 @@ fn content(heap: Global, text: &str) -> Result<Vec<u8>, Fail> {
 }
 
 pub(crate) fn add_field(sheet: &mut Vec<u8>, tag: u8, content: &[u8]) -> Result<(), AllocError> {
-    let length = content.len() % 65536;
-    sheet.extend_from_slice(&[tag, (length / 256) as u8, (length % 256) as u8])?;
+    let length = (content.len() % 65536) as u16;
+    sheet.push(tag)?;
+    sheet.extend_from_slice(&length.to_be_bytes())?;
     sheet.extend_from_slice(content)
 }
 
@@ -72,16 +73,6 @@ pub(crate) fn sheet(heap: Global, text: &str) -> Result<Vec<u8>, Fail> {
     Ok(bytes)
 }
 
-/// The number of a layer.
-pub(crate) fn tens(layer: Layer) -> u8 {
-    match layer {
-        Layer::Fields => 1,
-        Layer::Words => 2,
-        Layer::Text => 3,
-        Layer::Collection => 4,
-    }
-}
-
 fn check_cells(rt: &impl Abort, heap: Global, cells: &[u8], expected: &str) -> Result<(), Fail> {
     assert_eq!(rt; format!(in heap; "{cells:?}")?.as_str(), expected);
     Ok(())
@@ -96,7 +87,7 @@ pub(crate) fn check_refusal(
 ) -> Result<(), Fail> {
     let number = refusal.number();
     let place = refusal.place;
-    assert_eq!(rt; tens(refusal.layer()), number / 10);
+    assert_eq!(rt; refusal.layer() as u8, number / 10);
     assert_eq!(rt; format!(in heap; "{number} at {place}")?.as_str(), expected);
     Ok(())
 }

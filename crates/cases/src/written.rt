@@ -20,11 +20,8 @@ fn check_refused(
     cause: Cause,
     out: &[u8],
 ) -> Result<(), Fail> {
-    let Err(refusal) = answer else {
-        return Err(Fail::new("not refused"));
-    };
-    assert!(rt; refusal.cause == cause);
-    assert_eq!(rt; refusal.place, 0);
+    let refusal = answer.err().ok_or("not refused")?;
+    assert_eq!(rt; refusal, Refusal { cause, place: 0 });
     for byte in out {
         assert_eq!(rt; *byte, FILLER);
     }
@@ -41,8 +38,8 @@ fn check_written(
     let mut out = [FILLER; ROOM];
     let len = write_request(vocabulary, cells, &mut out)?;
     assert!(rt; len <= ROOM);
-    for i in len..ROOM {
-        assert_eq!(rt; out[i], FILLER);
+    for byte in &out[len..] {
+        assert_eq!(rt; *byte, FILLER);
     }
     assert!(rt; read_request(vocabulary, &out[0..len])?.as_slice() == cells);
     let mut short = vec![in heap; FILLER; len.saturating_sub(1)]?;
@@ -64,9 +61,7 @@ fn every_cell_has_a_request(rt: HostRuntime) -> Result<(), Fail> {
         vocabulary.read()?;
         let shape = vocabulary.shape();
         for n in 0..shape.size() {
-            let Some(cells) = shape.cells(n) else {
-                return Err(Fail::new("no cells"));
-            };
+            let cells = shape.cells(n).ok_or("no cells")?;
             check_written(&rt, rt.alloc(), &vocabulary, cells.as_slice())?;
         }
     }

@@ -1,7 +1,8 @@
 -- Every decision of a sheet under permit and deny is one of its three codes.
-use Rattle.std.proofs.Common.{◌≡◌, ℕ, ◌<◌, ◌≤◌, true, List, Some, None, Option, unwrap_or, refl, arith, MatchOption}
+use Rattle.std.proofs.Common.{◌≡◌, ℕ, ◌<◌, true, List, Ok, Err, Result, refl, arith, IsOk}
 use Rattle.algebra.specs.declared.permit_deny.Decision.{Decision}
-use Rattle.algebra.specs.PermitDeny.{permit_deny, code_of, at, sum_rows, meet_rows, exchanged}
+use Rattle.algebra.specs.declared.permit_deny.NoDecision.{NoDecision}
+use Rattle.algebra.specs.PermitDeny.{permit_deny, Decoded, at, sum_rows, meet_rows, exchanged}
 use Rattle.algebra.specs.Computed.{passes, also, each, short_cuts_of}
 use Rattle.vocabulary.specs.Vocabulary.{Attribute}
 use Rattle.policy.proofs.Lawfully.{sheet_lawful}
@@ -17,6 +18,6 @@ pub decision-below_three : (v : List Attribute) (s : List ℕ) (g : ℕ) → dec
 decision-below_three v s g = (sheet_lawful permit_deny (short_cuts_of 3 (at sum_rows) (at meet_rows) exchanged tested) v s).decisions_below_the_size g
 
 -- a code below 3 has its decision
-pub code_below_three : (o : Option Decision) (d : Decision) (code : ℕ) → code < 3 → MatchOption o (3 ≤ code) (λ e. code_of e ≡ code) → code_of (unwrap_or o d) ≡ code
-code_below_three None d code h past = absurd (omega arith)
-code_below_three (Some e) d code h is = is
+pub decoded_below_three : (r : Result Decision NoDecision) (code : ℕ) → code < 3 → Decoded code r → IsOk r
+decoded_below_three (Ok d) code h is = refl
+decoded_below_three (Err e) code h is = absurd (omega arith)

@@ -20,5 +20,5 @@ pub fn decision_at(vocabulary: &Vocabulary, sheet: &[u8], number: usize) -> Deci
     ensures { code_of result ≡ decision_at (attributes_of vocabulary.now) sheet.now number }
 {
     let code = code_at(vocabulary, sheet, number);
-    Decision::of_code(code).unwrap_or(Decision::NotApplicable)
+    Decision::try_from(code).unwrap()
 }

@@ -30,10 +30,10 @@ fn line_of(
 ) -> Result<Line, AllocError>
     ensures { IfOk result (λ l. line_shown l ≡ decisions_at (attributes_of vocabulary.now) (map list_now sheets.now) number) }
 {
-    let mut decisions = Vec::new(heap);
-    for sheet in sheets {
-        decisions.push(decision_at(vocabulary, sheet, number))?;
-    }
+    let decisions = sheets
+        .iter()
+        .map(|sheet| decision_at(vocabulary, sheet, number))
+        .collect(heap)?;
     Ok(Line { decisions })
 }
 

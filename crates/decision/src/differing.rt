@@ -23,13 +23,9 @@ pub fn differ_at(vocabulary: &Vocabulary, first: &[u8], second: &[u8], number: u
 pub fn how_many_differ(vocabulary: &Vocabulary, first: &[u8], second: &[u8]) -> usize
     ensures { result ≡ how_many_differ (decision_at (attributes_of vocabulary.now) first.now) (decision_at (attributes_of vocabulary.now) second.now) (grid (shape_of (attributes_of vocabulary.now))) }
 {
-    let mut count = 0;
-    for number in 0..vocabulary.shape().size() {
-        if differ_at(vocabulary, first, second, number) {
-            count += 1;
-        }
-    }
-    count
+    (0..vocabulary.shape().size())
+        .filter(|number| differ_at(vocabulary, first, second, *number))
+        .count()
 }
 
 /// Adds the differences of sheet `i` and those behind it.

@@ -11,13 +11,13 @@ use algebra::permit_deny::Decision;
 use std::fmt;
 
 /// What the sheets that came before a request decide on it, in their order.
-#[derive(Drop)]
+#[derive(PartialEq, Eq, Debug, Drop)]
 pub struct Line {
     pub decisions: Vec<Decision>,
 }
 
 /// At how many grid numbers two sheets decide differently.
-#[derive(Clone, Copy)]
+#[derive(Clone, Copy, PartialEq, Eq, Debug)]
 pub struct Difference {
     pub first: usize,
     pub second: usize,
@@ -25,7 +25,7 @@ pub struct Difference {
 }
 
 /// A line for each request, and a difference for each two sheets.
-#[derive(Drop)]
+#[derive(PartialEq, Eq, Debug, Drop)]
 pub struct Report {
     pub lines: Vec<Line>,
     pub differences: Vec<Difference>,
@@ -47,9 +47,24 @@ impl fmt::Display for Line {
 /// A difference is shown as `differ I J N`, with two digits for each sheet.
 impl fmt::Display for Difference {
     fn fmt<W: fmt::Write>(&self, f: &mut fmt::Formatter<W>) -> fmt::Result {
-        let first = self.first;
-        let second = self.second;
-        let numbers = self.numbers;
+        let Difference {
+            first,
+            second,
+            numbers,
+        } = *self;
         write!(f, "differ {first:02} {second:02} {numbers}")
+    }
+}
+
+/// A report is shown as its lines and then its differences, each with the end of a line.
+impl fmt::Display for Report {
+    fn fmt<W: fmt::Write>(&self, f: &mut fmt::Formatter<W>) -> fmt::Result {
+        for line in self.lines.iter() {
+            writeln!(f, "{line}")?;
+        }
+        for difference in self.differences.iter() {
+            writeln!(f, "{difference}")?;
+        }
+        Ok(())
     }
 }

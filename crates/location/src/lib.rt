@@ -8,6 +8,7 @@ ghost use Rattle.location.specs.declared.Failure.TheVariants.{Refused, OutOfMemo
 
 use refusal::Refusal;
 use std::alloc::{AllocError, AllocFailed};
+use std::error::Error;
 use std::fmt;
 use vocabulary::record::CellList;
 
@@ -31,11 +32,22 @@ impl fmt::Display for Location {
 }
 
 /// Why there is no answer.
-#[derive(Clone, Copy)]
+#[derive(Clone, Copy, PartialEq, Eq, Debug)]
 pub enum Failure {
     Refused(Refusal),
     OutOfMemory,
 }
+
+impl fmt::Display for Failure {
+    fn fmt<W: fmt::Write>(&self, f: &mut fmt::Formatter<W>) -> fmt::Result {
+        match self {
+            Failure::Refused(reason) => write!(f, "{reason}"),
+            Failure::OutOfMemory => f.write_str("out of memory"),
+        }
+    }
+}
+
+impl Error for Failure {}
 
 impl From<Refusal> for Failure {
     ghost from_gives = { λ r f. f ≡ Refused r };
