@@ -4,6 +4,9 @@ use lib.Signed.{lt_z}
 use Rattle.std.specs.List.{position_or_len, AllAdjacentBelow, IsAllAdjacentAnswer}
 use Rattle.std.specs.Simd.{first_chunks}
 use Rattle.fields.specs.Words.{is_name, sides, before, number_of, numbers_of, rises}
+use Rattle.std.specs.Bool.{then_some}
+use Rattle.std.specs.Borrow.{Bor}
+use Rattle.fields.specs.Parts.{pair_now, both_now}
 use Rattle.fields.specs.Fields.{when}
 
 -- ---- the two sides of the first sign
@@ -39,6 +42,11 @@ sides_of_sign c i e = go (ltb (before c) (length c)) (e ∙ sides_at c)
         let next : suc (before c) ≡ i + 1 = omega arith in
         ap₂ (λ (m n : ℕ). when (is_name (take m c)) (take m c, drop n c)) (sym h) next
     go false d = let z : ◌≡◌ {A = ℕ} 0 1 = cc in absurd (omega arith)
+
+-- two parts that are kept under a test
+pub parts_kept : (b : Bool) (x : Bor (List ℕ) × Bor (List ℕ)) → pair_now (then_some b x) ≡ when b (both_now x)
+parts_kept true x = refl
+parts_kept false x = refl
 
 -- ---- numbers of four bytes each
 -- the numbers are those of the chunks of four bytes, one after the other

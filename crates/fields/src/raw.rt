@@ -6,7 +6,7 @@ ghost use Rattle.fields.specs.Ways.{way_number};
 ghost use Rattle.fields.specs.Shown.{said, bare, found, EndsWithin, PartsFit};
 ghost use Rattle.fields.specs.Parts.{itself, list_now, numbers_now, both_now};
 
-use crate::way::{NoSuchWay, Way};
+use crate::way::Way;
 use crate::words::{is_name, is_rising, split_name};
 use crate::{Field, RawField};
 use refusal::{Cause, Refusal};
@@ -50,7 +50,7 @@ impl<'a> RawField<'a> {
     fn is_between(&self, low: usize, high: usize) -> bool
         ensures { result ≡ between low high self.now.content.now }
     {
-        low <= self.content.len() && self.content.len() <= high
+        (low..=high).contains(&self.content.len())
     }
 
     fn name(&self) -> Result<&'a [u8], Refusal>
@@ -92,10 +92,7 @@ impl<'a> RawField<'a> {
     fn way(&self) -> Result<Way, Refusal>
         ensures { answer_by way_number result ≡ way_in self.now.at self.now.content.now }
     {
-        match Way::try_from(self.byte()?) {
-            Ok(way) => Ok(way),
-            Err(NoSuchWay) => Err(self.refused(Cause::BadContent)),
-        }
+        Way::try_from(self.byte()?).or(Err(self.refused(Cause::BadContent)))
     }
 
     /// The two sides of the first `=`.

@@ -35,11 +35,7 @@ pub(crate) fn split_name<'a>(s: &'a [u8]) -> Option<(&'a [u8], &'a [u8])>
 {
     let i = equals_sign(s)?;
     let name = &s[..i];
-    if is_name(name) {
-        Some((name, &s[i + 1..]))
-    } else {
-        None
-    }
+    is_name(name).then_some((name, &s[i + 1..]))
 }
 
 /// The number in the first four bytes.

@@ -109,10 +109,8 @@ impl<'a> Vocabulary<'a> {
     pub fn name(&self, i: usize) -> &'a [u8]
         ensures { result.now ≡ (attribute_at (attributes_of self.now) i).name }
     {
-        match self.attributes.get(i) {
-            Some(attribute) => name_at(self.sheet, attribute.name),
-            None => &[],
-        }
+        let attribute = self.attributes.get(i);
+        attribute.map_or(&[], |attribute| name_at(self.sheet, attribute.name))
     }
 
     /// What names cell `c` of attribute `i` in a request.
