@@ -5,11 +5,10 @@ ghost use Rattle.policy.specs.Tallies.{tally_of, with_one};
 
 use algebra::Algebra;
 
-/// Whether no rule has matched yet, and what the decisions so far come to.
+/// What the decisions so far come to, once a rule has matched.
 #[derive(Clone, Copy)]
-pub struct Tally {
-    none: bool,
-    value: u8,
+pub(crate) struct Tally {
+    value: Option<u8>,
 }
 
 impl Tally {
@@ -17,34 +16,31 @@ impl Tally {
     pub(crate) fn new() -> Tally
         ensures { tally_of result ≡ no_tally }
     {
-        Tally {
-            none: true,
-            value: 0,
-        }
+        Tally { value: None }
     }
 
     /// One more rule matches, with this decision.
     pub(crate) fn add<A: Algebra>(&mut self, algebra: &A, way: u8, decision: u8)
         ensures { tally_of self.new ≡ with_one (A.tables algebra.now) way (tally_of self.old) decision }
     {
-        self.value = match (way, self.none) {
-            (1, false) => self.value,
-            (2, false) => algebra.sum(self.value, decision),
-            (3, false) => 0,
-            (1 | 2 | 3, true) => decision,
-            (_, true) => algebra.negation(decision),
-            (_, false) => algebra.sum(self.value, algebra.negation(decision)),
-        };
-        self.none = false;
+        self.value = Some(match (way, self.value) {
+            (1, Some(value)) => value,
+            (2, Some(value)) => algebra.sum(value, decision),
+            (3, Some(_)) => 0,
+            (1 | 2 | 3, None) => decision,
+            (_, None) => algebra.negation(decision),
+            (_, Some(value)) => algebra.sum(value, algebra.negation(decision)),
+        });
     }
 
     /// The decision, once all rules are read.
     pub(crate) fn decision<A: Algebra>(&self, algebra: &A, way: u8) -> u8
         ensures { result ≡ settled (A.tables algebra.now) way (tally_of self.now) }
     {
+        let value = self.value.unwrap_or(0);
         match way {
-            1 | 2 | 3 => self.value,
-            _ => algebra.negation(self.value),
+            1 | 2 | 3 => value,
+            _ => algebra.negation(value),
         }
     }
 }

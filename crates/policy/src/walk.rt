@@ -5,25 +5,25 @@ use crate::tally::Tally;
 
 /// For each attribute that the rule names: whether one of its conditions names the cell.
 #[derive(Clone, Copy)]
-pub struct Seen {
-    pub met: [Option<bool>; 8],
-    pub len: usize,
+pub(crate) struct Seen {
+    pub(crate) met: [Option<bool>; 8],
+    pub(crate) len: usize,
     ghost few: { len ≤ 8 },
     ghost held: { len ≤ length met },
 }
 
 /// The rule that is being read, after those in the tally.
 #[derive(Clone, Copy)]
-pub struct Judging {
-    pub way: u8,
-    pub tally: Tally,
-    pub decision: u8,
-    pub seen: Seen,
+pub(crate) struct Judging {
+    pub(crate) way: u8,
+    pub(crate) tally: Tally,
+    pub(crate) decision: u8,
+    pub(crate) seen: Seen,
 }
 
 /// What came before the next field.
 #[derive(Clone, Copy)]
-pub enum State {
+pub(crate) enum State {
     Begun,
     Headed(u8),
     Ruled(Judging),
@@ -31,6 +31,6 @@ pub enum State {
 
 /// A walk for one list of cells: of the rules it keeps only what they decide there.
 #[derive(Clone, Copy)]
-pub struct Walk {
-    pub state: State,
+pub(crate) struct Walk {
+    pub(crate) state: State,
 }
