@@ -7,10 +7,10 @@ ghost use Rattle.vocabulary.specs.Record.{counts_of};
 use crate::source::Source;
 use vocabulary::record::Shape;
 
-pub mod reading;
+mod reading;
 
 /// Room for the largest grid.
-pub const LARGEST_GRID: usize = 4096;
+const LARGEST_GRID: usize = 4096;
 
 /// The codes of a grid list, and 0 behind them.
 #[derive(Clone, Copy)]
