@@ -25,20 +25,14 @@ use vocabulary::record::reading::LONGEST_SHEET;
 fn meets_now(before: Option<bool>, met: bool) -> bool
     ensures { result ≡ (was_met before || met) }
 {
-    match before {
-        Some(true) => true,
-        _ => met,
-    }
+    before.unwrap_or(false) || met
 }
 
 /// The attribute is named, and its cell is not.
 fn is_missed(seen: Option<bool>) -> bool
     ensures { result ≡ missed seen }
 {
-    match seen {
-        Some(met) => !met,
-        None => false,
-    }
+    seen == Some(false)
 }
 
 impl Seen {
@@ -64,12 +58,7 @@ impl Seen {
     fn all_met(&self) -> bool
         ensures { result ≡ all_met (seen_in self.now) }
     {
-        for i in 0..self.len {
-            if is_missed(self.met[i]) {
-                return false;
-            }
-        }
-        true
+        self.met[..self.len].iter().all(|seen| !is_missed(*seen))
     }
 }
 
@@ -90,10 +79,7 @@ impl Judging {
 fn is_chosen(vocabulary: &Vocabulary, i: usize, value: &[u8], cell: u8) -> Option<bool>
     ensures { result ≡ among cell (choice_cells (attribute_at (attributes_of vocabulary.now) i).kind value.now) }
 {
-    match vocabulary.value_cell(i, value) {
-        Some(chosen) => Some(chosen == cell),
-        None => None,
-    }
+    vocabulary.value_cell(i, value).map(|chosen| chosen == cell)
 }
 
 /// Whether the cell lies from one up to, not including, another.
@@ -108,11 +94,7 @@ fn lies_between(low: Option<u8>, high: Option<u8>, cell: u8) -> Option<bool>
     ensures { result ≡ among cell (between low high) }
 {
     let (low, high) = (low?, high?);
-    if low < high {
-        Some(is_from(low, high, cell))
-    } else {
-        None
-    }
+    (low < high).then_some(is_from(low, high, cell))
 }
 
 /// Whether the cell lies from one cut of attribute `i` up to another.
