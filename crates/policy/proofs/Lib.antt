@@ -5,4 +5,5 @@ pub mod Counted
 pub mod Lawfully
 pub mod Matched
 pub mod Seeing
+pub mod Turning
 pub mod Walked

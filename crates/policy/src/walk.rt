@@ -1,7 +1,9 @@
 //! How far a walk through a policy sheet has come.
-ghost use Rattle.std.specs.Prelude.{◌≤◌, length};
+ghost use Rattle.std.specs.Prelude.{◌≡◌, ◌≤◌, length};
+ghost use Rattle.vocabulary.specs.Record.{attributes_of};
 
 use crate::tally::Tally;
+use vocabulary::record::Vocabulary;
 
 /// For each attribute that the rule names: whether one of its conditions names the cell.
 #[derive(Clone, Copy)]
@@ -29,8 +31,11 @@ pub(crate) enum State {
     Ruled(Judging),
 }
 
-/// A walk for one list of cells: of the rules it keeps only what they decide there.
-#[derive(Clone, Copy)]
-pub(crate) struct Walk {
-    pub(crate) state: State,
+/// A walk for one list of cells, one an attribute: of the rules it keeps only what they decide there.
+#[derive(Drop)]
+pub(crate) struct Walk<'a, A> {
+    pub(crate) algebra: &'a A,
+    pub(crate) vocabulary: &'a Vocabulary<'a>,
+    pub(crate) cells: &'a [u8],
+    ghost one_cell_an_attribute: { length cells.now ≡ length (attributes_of vocabulary.now) },
 }
