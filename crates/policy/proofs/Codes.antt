@@ -1,31 +1,17 @@
 -- Codes of a grid list: which pass, and what they mean.
 use Rattle.std.proofs.Common.{◌≡◌, ℕ, zero, suc, ◌+◌, ◌-◌, ◌<◌, ◌≤◌, Bool, true, false, cond, ltb, leb, List, [], ◌∷◌, ◌++◌, length, get_or, take, drop, replicate, Some, None, Ok, zero-add, sym, refl, ap, ◌∙◌, subst, ⊎_elim, add-zero, arith, ltb-true, leb-true, le-ltb, lt-ltb, eq-eqb}
-use mathlib.Core.Logic.{∥∥₁_elim}
-use native.Mathlib.Bridge.{le_prop}
 use lib.ListN.{get_or-replicate, length-replicate}
 use Rattle.std.specs.List.{position, position_or_len}
 use Rattle.std.proofs.Math.Seq.{get_or-append_right}
 use Rattle.std.proofs.lemmas.List.Sums.{fails_before_first, passes_at_first}
 use Rattle.std.proofs.lemmas.Bool.Decides.{nat_tests}
 use Rattle.std.proofs.lemmas.List.{get_or_past, get_or_append_left, get_or-drop}
-use Rattle.std.proofs.lemmas.Bool.{cases_Bool, cases_lt, cond-true, cond-false}
+use Rattle.std.proofs.lemmas.Bool.{cases_lt}
 use Rattle.refusal.specs.Answers.{refuse, and_then}
 use Rattle.fields.proofs.Answering.{not_both, and_then_value, either_way}
 use Rattle.vocabulary.specs.Grid.{grid}
 use Rattle.vocabulary.proofs.Filled.{front_is}
-use Rattle.policy.specs.Meaning.{Lawful}
 use Rattle.policy.specs.Lists.{checked_from, codes_of, codes_meaning, AllBelow}
-
--- a code or 0, which is below every size
-pub codes_lawful : (shape : List ℕ) (k : ℕ) (codes : List ℕ) → 0 < k → ∥ AllBelow k codes ∥₁ → Lawful (codes_meaning shape k codes)
-codes_lawful shape k codes some below = record {
-  decisions_below_the_size =
-      λ g.
-      ⊎_elim (λ (t : ltb g (grid shape) ≡ true). subst (λ (d : ℕ). d < k) (sym (cond-true (ltb g (grid shape)) (get_or codes g 0) 0 t)) (∥∥₁_elim below le_prop (λ b. b g)))
-      (λ (t : ltb g (grid shape) ≡ false). subst (λ (d : ℕ). d < k) (sym (cond-false (ltb g (grid shape)) (get_or codes g 0) 0 t)) some)
-      (cases_Bool (ltb g (grid shape)));
-  zero_beyond_the_grid = λ g h. cond-false (ltb g (grid shape)) (get_or codes g 0) 0 (le-ltb g (grid shape) h);
-}
 
 -- codes that are all below k pass
 pub all_pass : (k at : ℕ) (cs : List ℕ) → ((j : ℕ) → j < length cs → get_or cs j 0 < k) → Ok cs ≡ checked_from k at cs

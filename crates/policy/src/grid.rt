@@ -23,7 +23,11 @@ pub struct GridSource {
 }
 
 impl Source for GridSource {
+    ghost use Rattle.policy.specs.Lawfulness.{codes_lawful};
+
     ghost meaning = { λ s. codes_meaning (counts_of s.shape) s.size s.codes };
+
+    ghost decisions_are_lawful = { λ s. codes_lawful (counts_of s.shape) s.size s.codes s.some_code s.all_below };
 
     fn shape(&self) -> Shape {
         self.shape
