@@ -4,10 +4,10 @@ use lib.ListN.{length-map}
 use Rattle.std.proofs.lemmas.Bool.{cond-true}
 use Rattle.std.specs.Result.{result_unwrap_or}
 use Rattle.refusal.specs.declared.Refusal.{Refusal}
-use Rattle.refusal.specs.Answers.{Answer, and_then, told_by, answer_by}
+use Rattle.refusal.specs.Answers.{Told, Answer, and_then, told_by, answer_by}
 use Rattle.fields.specs.Parts.{itself}
 use Rattle.fields.specs.Fields.{when}
-use Rattle.fields.proofs.Answering.{not_both, same_value}
+use Rattle.fields.proofs.Answering.{not_both, same_value, same_refusal}
 use Rattle.algebra.specs.Tables.{Tables}
 use Rattle.vocabulary.specs.Grid.{grid, cells_at, cells_if}
 use Rattle.vocabulary.specs.Vocabulary.{Attribute, shape_of, count}
@@ -49,3 +49,8 @@ answers t v bs g cs found r e =
     let p = passed (ltb g (grid (shape_of v))) (cells_at (shape_of v) g) cs found in
     decided_or_zero t cs (policy_of v t.size bs) r e
     ∙ ap (decided_at t (policy_of v t.size bs)) p.1 ∙ sym (cond-true (ltb g (grid (shape_of v))) _ 0 p.0)
+
+-- a sheet that is refused anywhere is refused
+pub refused_anywhere : (t : Tables) (cells : List ℕ) (a : Answer (ℕ × List Rule)) (y : Told) → Err y ≡ and_then a (λ x. Ok (decides t x.0 x.1 cells)) → ◌≡◌ {A = Answer (Unit {0})} (Err y) (and_then a (λ x. Ok (tt {0})))
+refused_anywhere t cells (Ok x) y e = absurd (not_both y _ e)
+refused_anywhere t cells (Err z) y e = ap (λ w. Err w) (same_refusal y z e)
