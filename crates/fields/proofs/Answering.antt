@@ -1,6 +1,7 @@
 -- Answers one after the other.
-use Rattle.std.proofs.Common.{◌≡◌, ℕ, Bool, true, false, cond, Some, None, Ok, Err, Option, refl, ap, ◌∙◌, arith}
-use Rattle.refusal.specs.Answers.{Told, Answer, and_then, given}
+use Rattle.std.proofs.Common.{◌≡◌, ℕ, Bool, true, false, cond, Some, None, Ok, Err, Option, Result, sym, refl, ap, ◌∙◌, arith}
+use Rattle.refusal.specs.declared.Refusal.{Refusal}
+use Rattle.refusal.specs.Answers.{Told, Answer, told_by, answer_by, and_then, given}
 
 -- a refusal is not a value, for they are different variants
 pub not_both : {X : Type 0} (t : Told) (x : X) → Err t ≡ Ok x → ⊥
@@ -13,6 +14,10 @@ same_value x y e = cc
 -- and so are two refusals
 pub same_refusal : {X : Type 0} (y z : Told) → ◌≡◌ {A = Answer X} (Err y) (Err z) → y ≡ z
 same_refusal y z e = ap (λ a. elim a [ Ok x ↦ y | Err w ↦ w ]) e
+
+-- a refusal that a `?` hands on is the answer
+pub handed_back : {X Z : Type 0} (g : Z → X) (r : Result Z Refusal) (e : Refusal) (a : Answer X) → (y : Refusal) × (r ≡ Err y) × (y ≡ e) → a ≡ Err (told_by e) → answer_by g r ≡ a
+handed_back g r e a p q = ap (answer_by g) p.1 ∙ ap (λ (y : Refusal). Err (told_by y)) p.2 ∙ sym q
 
 -- going on in the same way gives the same, for the way is taken at one value only
 pub and_then_same : {X Y : Type 0} (r : Answer X) (f g : X → Answer Y) → ((x : X) → f x ≡ g x) → and_then r f ≡ and_then r g

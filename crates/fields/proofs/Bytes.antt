@@ -1,102 +1,80 @@
--- One turn of the loops over the bytes of a field.
-use Rattle.std.proofs.Common.{◌≡◌, ℕ, zero, suc, ◌+◌, ◌-◌, ◌*◌, ◌<◌, ◌≤◌, true, false, eqb, ltb, List, [], ◌∷◌, length, get_or, take, drop, ℤ, pos, Some, None, sym, refl, ap, ◌∙◌, ap₂, ⊎_elim, arith, le-leb}
+-- What tests of the bytes of a field find.
+use Rattle.std.proofs.Common.{◌≡◌, ℕ, zero, suc, ◌+◌, ◌/◌, ◌<◌, Bool, true, false, cond, not, ◌&&◌, eqb, ltb, List, [], ◌∷◌, map, length, get_or, take, drop, Some, None, Option, sym, refl, ap, ◌∙◌, ap₂, position, arith}
 use lib.Signed.{lt_z}
-use Rattle.std.proofs.lemmas.List.{at_drop_more, at_drop_all, take_rest}
-use Rattle.std.proofs.lemmas.Bool.{cases_Bool}
-use Rattle.std.proofs.lemmas.Bool.Decides.{nat_tests}
-use Rattle.fields.specs.Words.{name_byte, name_bytes, is_name, sides, before, number_of, numbers_of, rises}
-
-module _ (bs : List ℕ) (i : ℕ) (h : i < length bs) where
-  -- a name byte is passed over
-  pub name_more : name_byte (get_or bs i 0) ≡ true → name_bytes (drop i bs) ≡ name_bytes (drop (i + 1) bs)
-  name_more e = at_drop_more name_bytes bs i 0 h ∙ rw e
-
-  -- another byte ends the test
-  pub name_none : name_byte (get_or bs i 0) ≡ false → name_bytes (drop i bs) ≡ false
-  name_none e = at_drop_more name_bytes bs i 0 h ∙ rw e
-
-  -- one more byte stands before the sign
-  pub before_more : eqb (get_or bs i 0) 0x3D ≡ false → before (drop i bs) ≡ before (drop (i + 1) bs) + 1
-  before_more e = at_drop_more before bs i 0 h ∙ rw e (omega arith)
-
-  -- the sign itself
-  pub before-none : eqb (get_or bs i 0) 0x3D ≡ true → before (drop i bs) ≡ 0
-  before-none e = at_drop_more before bs i 0 h ∙ rw e
-
-pub name_all : (bs : List ℕ) (i : ℕ) → length bs ≤ i → name_bytes (drop i bs) ≡ true
-name_all bs i h = at_drop_all name_bytes bs i h
-
-pub before_all : (bs : List ℕ) (i : ℕ) → length bs ≤ i → before (drop i bs) ≡ 0
-before_all bs i h = at_drop_all before bs i h
-
--- number i lies in the four bytes from 4 * i on
-pub number_is : (bs : List ℕ) (i : ℕ) → 4 * i + 4 ≤ length bs → get_or (numbers_of bs) i (pos 0) ≡ number_of (take 4 (drop (4 * i) bs))
-number_is [] i h = absurd (omega arith)
-number_is (a ∷ []) i h = absurd (omega arith)
-number_is (a ∷ b ∷ []) i h = absurd (omega arith)
-number_is (a ∷ b ∷ c ∷ []) i h = absurd (omega arith)
-number_is (a ∷ b ∷ c ∷ d ∷ bs) zero h = refl
-number_is (a ∷ b ∷ c ∷ d ∷ bs) (suc i) h =
-    let n : 4 * suc i ≡ suc (suc (suc (suc (4 * i)))) = omega arith in
-    number_is bs i (omega arith) ∙ sym (ap (λ (m : ℕ). number_of (take 4 (drop m (a ∷ b ∷ c ∷ d ∷ bs)))) n)
-
--- the next number is above: go on behind it
-pub rises_more : (zs : List ℤ) (i : ℕ) → suc i < length zs → lt_z (get_or zs i (pos 0)) (get_or zs (suc i) (pos 0)) ≡ true → rises (drop i zs) ≡ rises (drop (suc i) zs)
-rises_more [] i h e = absurd (omega arith)
-rises_more (x ∷ []) i h e = absurd (omega arith)
-rises_more (x ∷ y ∷ zs) zero h e = rw e
-rises_more (x ∷ y ∷ zs) (suc i) h e = rises_more (y ∷ zs) i (omega arith) e
-
--- the next number is not above: they do not rise
-pub rises-none : (zs : List ℤ) (i : ℕ) → suc i < length zs → lt_z (get_or zs i (pos 0)) (get_or zs (suc i) (pos 0)) ≡ false → rises (drop i zs) ≡ false
-rises-none [] i h e = absurd (omega arith)
-rises-none (x ∷ []) i h e = absurd (omega arith)
-rises-none (x ∷ y ∷ zs) zero h e = rw e
-rises-none (x ∷ y ∷ zs) (suc i) h e = rises-none (y ∷ zs) i (omega arith) e
-
--- one number or none rises
-pub rises_all : (zs : List ℤ) (i : ℕ) → length zs ≤ suc i → rises (drop i zs) ≡ true
-rises_all [] zero h = refl
-rises_all [] (suc i) h = refl
-rises_all (x ∷ []) zero h = refl
-rises_all (x ∷ y ∷ zs) zero h = absurd (omega arith)
-rises_all (x ∷ zs) (suc i) h = rises_all zs i (omega arith)
+use Rattle.std.specs.List.{position_or_len, AllAdjacentBelow, IsAllAdjacentAnswer}
+use Rattle.std.specs.Simd.{first_chunks}
+use Rattle.fields.specs.Words.{is_name, sides, before, number_of, numbers_of, rises}
+use Rattle.fields.specs.Fields.{when}
 
 -- ---- the two sides of the first sign
-module _ (bs : List ℕ) (i : ℕ) (e : i ≡ before bs) where
-  -- no sign
-  pub no_sign : i ≡ length bs → None ≡ sides bs
-  no_sign l = let t : ltb (before bs) (length bs) ≡ false = grind (arith, nat_tests) in sym (rw t)
+-- the test first passes behind as many bytes as stand before the sign
+sign_before : (bs : List ℕ) → position_or_len (λ b. eqb b 0x3D) bs ≡ before bs
+sign_before [] = refl
+sign_before (b ∷ bs) = go (eqb b 0x3D) (sign_before bs)
+  where
+    go : (t : Bool) → position_or_len (λ b. eqb b 0x3D) bs ≡ before bs → cond (not t) (1 + position_or_len (λ b. eqb b 0x3D) bs) 0 ≡ cond t 0 (suc (before bs))
+    go true e = refl
+    go false e = omega arith
 
-  -- a sign after a name
-  pub name_before : i ≤ length bs → (i ≡ length bs → ⊥) → true ≡ is_name (take (i - 0) bs) → Some (take (i - 0) bs, take (length bs - (i + 1)) (drop (i + 1) bs)) ≡ sides bs
-  name_before l ne n =
-      let t : ltb (before bs) (length bs) ≡ true = le-leb _ _ (omega arith) in
-      let p : take (i - 0) bs ≡ take (before bs) bs = ap (λ m. take m bs) (omega arith) in
-      let next : i + 1 ≡ suc (before bs) = omega arith in
-      let q : take (length bs - (i + 1)) (drop (i + 1) bs) ≡ drop (suc (before bs)) bs = take_rest bs (i + 1) ∙ ap (λ m. drop m bs) next in
-      let n' : is_name (take (before bs) bs) ≡ true = ap is_name (sym p) ∙ sym n in
-      (λ j. Some (p j, q j)) ∙ sym (rw (t, n'))
+-- so the sides are found there
+sides_at : (c : List ℕ) → position (λ b. eqb b 0x3D) c ≡ cond (ltb (before c) (length c)) (Some (before c)) None
+sides_at c = ap (λ (i : ℕ). cond {A = Option ℕ} (ltb i (length c)) (Some i) None) (sign_before c)
 
-  -- a sign after something else
-  pub no_name_before : false ≡ is_name (take (i - 0) bs) → None ≡ sides bs
-  no_name_before n =
-      let p : take (i - 0) bs ≡ take (before bs) bs = ap (λ m. take m bs) (omega arith) in
-      let n' : is_name (take (before bs) bs) ≡ false = ap is_name (sym p) ∙ sym n in
-      ⊎_elim (λ (t : ltb (before bs) (length bs) ≡ true). sym (rw (t, n'))) (λ (t : ltb (before bs) (length bs) ≡ false). sym (rw t)) (cases_Bool (ltb (before bs) (length bs)))
+-- without a sign there are no sides
+pub no_sides : (c : List ℕ) → None ≡ position (λ b. eqb b 0x3D) c → sides c ≡ None
+no_sides c e = go (ltb (before c) (length c)) (e ∙ sides_at c)
+  where
+    go : (t : Bool) → ◌≡◌ {A = Option ℕ} None (cond t (Some (before c)) None) → cond {A = Option (List ℕ × List ℕ)} (t && is_name (take (before c) c)) (Some (take (before c) c, drop (suc (before c)) c)) None ≡ None
+    go true d = let z : ◌≡◌ {A = ℕ} 0 1 = cc in absurd (omega arith)
+    go false d = refl
 
--- ---- the same, for a turn at i that compares the numbers at i - 1 and i
-module _ (zs : List ℤ) (i : ℕ) (x y : ℤ) (l : 1 ≤ i) (h : i < length zs) (ex : x ≡ get_or zs (i - 1) (pos 0)) (ey : y ≡ get_or zs i (pos 0)) where
-  here : suc (i - 1) ≡ i
-  here = omega arith
+-- the sides of a sign are what stands before and behind it, if the first is a name
+pub sides_of_sign : (c : List ℕ) (i : ℕ) → Some i ≡ position (λ b. eqb b 0x3D) c → sides c ≡ when (is_name (take i c)) (take i c, drop (i + 1) c)
+sides_of_sign c i e = go (ltb (before c) (length c)) (e ∙ sides_at c)
+  where
+    go : (t : Bool) → ◌≡◌ {A = Option ℕ} (Some i) (cond t (Some (before c)) None)
+        → cond {A = Option (List ℕ × List ℕ)} (t && is_name (take (before c) c)) (Some (take (before c) c, drop (suc (before c)) c)) None ≡ when (is_name (take i c)) (take i c, drop (i + 1) c)
+    go true d =
+        let h : i ≡ before c = cc in
+        let next : suc (before c) ≡ i + 1 = omega arith in
+        ap₂ (λ (m n : ℕ). when (is_name (take m c)) (take m c, drop n c)) (sym h) next
+    go false d = let z : ◌≡◌ {A = ℕ} 0 1 = cc in absurd (omega arith)
 
-  compared : lt_z (get_or zs (i - 1) (pos 0)) (get_or zs (suc (i - 1)) (pos 0)) ≡ lt_z x y
-  compared = ap (λ (k : ℕ). lt_z (get_or zs (i - 1) (pos 0)) (get_or zs k (pos 0))) here ∙ sym (ap₂ lt_z ex ey)
+-- ---- numbers of four bytes each
+-- the numbers are those of the chunks of four bytes, one after the other
+pub numbers_of_chunks : (bs : List ℕ) → numbers_of bs ≡ map number_of (first_chunks 4 (length bs / 4) bs)
+numbers_of_chunks [] = refl
+numbers_of_chunks (a ∷ []) = refl
+numbers_of_chunks (a ∷ b ∷ []) = refl
+numbers_of_chunks (a ∷ b ∷ c ∷ []) = refl
+numbers_of_chunks (a ∷ b ∷ c ∷ d ∷ bs) =
+    let n : suc (length bs / 4) ≡ length (a ∷ b ∷ c ∷ d ∷ bs) / 4 = omega arith in
+    ap (λ zs. number_of (a ∷ b ∷ c ∷ d ∷ []) ∷ zs) (numbers_of_chunks bs) ∙ ap (λ (k : ℕ). map number_of (first_chunks 4 k (a ∷ b ∷ c ∷ d ∷ bs))) n
 
-  pub rises-at : lt_z x y ≡ true → rises (drop (i - 1) zs) ≡ rises (drop (i + 1 - 1) zs)
-  rises-at t =
-      let back : suc (i - 1) ≡ i + 1 - 1 = omega arith in
-      rises_more zs (i - 1) (omega arith) (compared ∙ t) ∙ ap (λ (k : ℕ). rises (drop k zs)) back
+-- a chunk and the next, counted with one more in front
+further : (x : List ℕ) (xs : List (List ℕ)) (k : ℕ) (d : List ℕ)
+    → lt_z (number_of (get_or (x ∷ xs) (suc k) d)) (number_of (get_or (x ∷ xs) (suc k + 1) d)) ≡ lt_z (number_of (get_or xs k d)) (number_of (get_or xs (k + 1) d))
+further x xs k d = let n : suc k + 1 ≡ suc (k + 1) = omega arith in ap (λ (m : ℕ). lt_z (number_of (get_or xs k d)) (number_of (get_or (x ∷ xs) m d))) n
 
-  pub falls_at : lt_z x y ≡ false → rises (drop (i - 1) zs) ≡ false
-  falls_at t = rises-none zs (i - 1) (omega arith) (compared ∙ t)
+-- the chunks rise just where each number is below that of the next chunk
+pub rises_by_chunks : (xs : List (List ℕ)) (r : Bool) → IsAllAdjacentAnswer (λ x y b. b ≡ lt_z (number_of x) (number_of y)) xs r → r ≡ rises (map number_of xs)
+rises_by_chunks xs true h = sym (up xs h)
+  where
+    up : (xs : List (List ℕ)) → AllAdjacentBelow (λ x y. true ≡ lt_z (number_of x) (number_of y)) xs (length xs) → rises (map number_of xs) ≡ true
+    up [] h = refl
+    up (x ∷ []) h = refl
+    up (x ∷ y ∷ xs) h =
+        let behind : AllAdjacentBelow (λ x y. true ≡ lt_z (number_of x) (number_of y)) (y ∷ xs) (length (y ∷ xs)) =
+        λ k d l. h (suc k) d (omega arith) ∙ further x (y ∷ xs) k d in
+        ap₂ ◌&&◌ (sym (h 0 [] (omega arith))) (up (y ∷ xs) behind)
+rises_by_chunks xs false h = sym (down xs h.0 h.1 h.2)
+  where
+    pair_falls : (t s : Bool) → s ≡ false → (t && s) ≡ false
+    pair_falls true s e = e
+    pair_falls false s e = refl
+
+    down : (xs : List (List ℕ)) (k : ℕ) → k + 1 < length xs → ((d : List ℕ) → false ≡ lt_z (number_of (get_or xs k d)) (number_of (get_or xs (k + 1) d))) → rises (map number_of xs) ≡ false
+    down [] k l h = absurd (omega arith)
+    down (x ∷ []) k l h = absurd (omega arith)
+    down (x ∷ y ∷ xs) zero l h = ap (λ t. t && rises (map number_of (y ∷ xs))) (sym (h []))
+    down (x ∷ y ∷ xs) (suc k) l h = pair_falls (lt_z (number_of x) (number_of y)) (rises (map number_of (y ∷ xs))) (down (y ∷ xs) k (omega arith) (λ d. h d ∙ further x (y ∷ xs) k d))

@@ -6,3 +6,4 @@ pub mod Putting
 pub mod Reading
 pub mod Saying
 pub mod Stepping
+pub mod Walking

@@ -4,6 +4,7 @@ use Rattle.fields.specs.declared.Field.{Field}
 use Rattle.fields.specs.declared.Field.TheVariants.{Attribute, Value, Cuts, Way, Rule, Choice, Range, Measure}
 use Rattle.fields.specs.declared.RawField.{RawField}
 use Rattle.fields.specs.Words.{number_of, numbers_of}
+use Rattle.fields.specs.Ways.{way_number}
 use Rattle.fields.specs.Fields.{Framed, framed, Said, attribute, value, cuts, way, rule, choice, range, measure}
 
 -- what a field of the code says
@@ -11,22 +12,22 @@ abbrev pub said : Field → Said
 said (Attribute n) = attribute n.now
 said (Value n) = value n.now
 said (Cuts c) = cuts (numbers_of c.now)
-said (Way b) = way b
+said (Way w) = way (way_number w)
 said (Rule b) = rule b
 said (Choice a v) = choice a.now v.now
 said (Range a f t) = range a.now (number_of f.now) (number_of t.now)
 said (Measure a n) = measure a.now (number_of n.now)
 
--- a name or cuts that a field says are its whole content, and its numbers have four bytes
+-- a name or cuts that a field says are its whole content
 abbrev pub PartsFit : List ℕ → Field → Type 0
 PartsFit c (Attribute n) = n.now ≡ c
 PartsFit c (Value n) = n.now ≡ c
 PartsFit c (Cuts b) = (b.now ≡ c) × (length c / 4 ≤ 17)
-PartsFit c (Way b) = Unit {0}
+PartsFit c (Way w) = Unit {0}
 PartsFit c (Rule b) = Unit {0}
 PartsFit c (Choice a v) = Unit {0}
-PartsFit c (Range a f t) = (length f.now ≡ 4) × (length t.now ≡ 4)
-PartsFit c (Measure a n) = length n.now ≡ 4
+PartsFit c (Range a f t) = Unit {0}
+PartsFit c (Measure a n) = Unit {0}
 
 -- tag and content of a field as it lies in a sheet
 abbrev pub bare : RawField → Framed

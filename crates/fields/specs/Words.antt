@@ -1,6 +1,8 @@
 -- Names and numbers, as they stand in the content of a field.
-use Rattle.std.specs.Prelude.{ℕ, suc, ◌+◌, ◌*◌, ◌/◌, ◌%◌, Bool, true, false, cond, ◌&&◌, ◌||◌, List, [], ◌∷◌, length, take, drop, ℤ, Some, None, Option, ◌==◌, int_lt, nat_le, nat_lt, slice_index}
+use Rattle.std.specs.Prelude.{ℕ, suc, ◌+◌, ◌*◌, ◌/◌, ◌%◌, Bool, true, cond, ◌&&◌, ◌||◌, List, [], ◌∷◌, length, take, drop, ℤ, Some, None, Option, ◌==◌, int_lt, nat_le, nat_lt, slice_index}
 use Rattle.std.specs.Int.{w32}
+use Rattle.std.specs.List.{list_all}
+use Rattle.std.specs.Str.{bytes_eq}
 use Rattle.std.proofs.Common.{to_z, of_z}
 
 -- a small letter, a digit or the hyphen
@@ -9,8 +11,7 @@ name_byte b = (nat_le 97 b && nat_le b 122) || ((nat_le 48 b && nat_le b 57) || 
 
 -- every byte may stand in a name
 abbrev pub name_bytes : List ℕ → Bool
-name_bytes [] = true
-name_bytes (b ∷ bs) = name_byte b && name_bytes bs
+name_bytes bs = list_all name_byte bs
 
 -- a name has 1 to 16 of these bytes
 abbrev pub is_name : List ℕ → Bool
@@ -18,10 +19,7 @@ is_name bs = nat_lt 0 (length bs) && (nat_le (length bs) 16 && name_bytes bs)
 
 -- two names are the same when all their bytes are
 abbrev pub equal : List ℕ → List ℕ → Bool
-equal [] [] = true
-equal [] (y ∷ ys) = false
-equal (x ∷ xs) [] = false
-equal (x ∷ xs) (y ∷ ys) = x == y && equal xs ys
+equal xs ys = bytes_eq xs ys
 
 -- a signed number of 32 bits, two's complement, high byte first
 abbrev pub number_of : List ℕ → ℤ

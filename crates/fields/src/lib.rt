@@ -2,8 +2,12 @@
 #![tactic(auto)]
 
 pub mod raw;
+pub mod sheet;
+pub mod way;
 pub mod words;
 pub mod write;
+
+use crate::way::Way;
 
 /// What a field says; its parts are borrowed from the sheet.
 #[derive(Clone, Copy)]
@@ -15,15 +19,15 @@ pub enum Field<'a> {
     /// Rising numbers of four bytes each.
     Cuts(&'a [u8]),
     /// How the rules of a policy sheet are combined.
-    Way(u8),
+    Way(Way),
     /// The decision of a rule.
     Rule(u8),
     /// An attribute's name and a value's name.
     Choice(&'a [u8], &'a [u8]),
     /// An attribute's name and two numbers.
-    Range(&'a [u8], &'a [u8], &'a [u8]),
+    Range(&'a [u8], &'a [u8; 4], &'a [u8; 4]),
     /// An attribute's name and a number.
-    Measure(&'a [u8], &'a [u8]),
+    Measure(&'a [u8], &'a [u8; 4]),
 }
 
 /// A field as it lies in a sheet, at `at` and before `next`.

@@ -2,9 +2,11 @@
 ghost use Rattle.std.specs.Prelude.{◌≡◌, ℕ, ◌+◌, ◌/◌, ◌≤◌, length, IfOk};
 ghost use Rattle.refusal.specs.Answers.{answer_by};
 ghost use Rattle.fields.specs.Fields.{field_at, name_in, cuts_in, byte_in, way_in, choice_said, range_said, measure_said, said_by, sides_in, between};
+ghost use Rattle.fields.specs.Ways.{way_number};
 ghost use Rattle.fields.specs.Shown.{said, bare, found, EndsWithin, PartsFit};
 ghost use Rattle.fields.specs.Parts.{itself, list_now, numbers_now, both_now};
 
+use crate::way::{NoSuchWay, Way};
 use crate::words::{is_name, is_rising, split_name};
 use crate::{Field, RawField};
 use refusal::{Cause, Refusal};
@@ -19,20 +21,18 @@ pub fn next_field<'a>(sheet: &'a [u8], at: usize) -> Result<RawField<'a>, Refusa
         cause: Cause::Truncated,
         place: at,
     };
-    if sheet.len() - at < 3 {
+    let Some((head, rest)) = sheet[at..].split_first_chunk::<3>() else {
+        return Err(truncated);
+    };
+    let size = usize::from(u16::from_be_bytes([head[1], head[2]]));
+    if rest.len() < size {
         return Err(truncated);
     }
-    let size = sheet[at + 1] as usize * 256 + sheet[at + 2] as usize;
-    let from = at + 3;
-    if sheet.len() - from < size {
-        return Err(truncated);
-    }
-    let next = from + size;
     Ok(RawField {
-        tag: sheet[at],
-        content: &sheet[from..next],
+        tag: head[0],
+        content: &rest[..size],
         at,
-        next,
+        next: at + 3 + size,
     })
 }
 
@@ -83,20 +83,19 @@ impl<'a> RawField<'a> {
     fn byte(&self) -> Result<u8, Refusal>
         ensures { answer_by itself result ≡ byte_in self.now.at self.now.content.now }
     {
-        if self.content.len() != 1 {
-            return Err(self.refused(Cause::BadLength));
+        match self.content {
+            [byte] => Ok(*byte),
+            _ => Err(self.refused(Cause::BadLength)),
         }
-        Ok(self.content[0])
     }
 
-    fn way(&self) -> Result<u8, Refusal>
-        ensures { answer_by itself result ≡ way_in self.now.at self.now.content.now }
+    fn way(&self) -> Result<Way, Refusal>
+        ensures { answer_by way_number result ≡ way_in self.now.at self.now.content.now }
     {
-        let way = self.byte()?;
-        if way < 1 || way > 4 {
-            return Err(self.refused(Cause::BadContent));
+        match Way::try_from(self.byte()?) {
+            Ok(way) => Ok(way),
+            Err(NoSuchWay) => Err(self.refused(Cause::BadContent)),
         }
-        Ok(way)
     }
 
     /// The two sides of the first `=`.
@@ -106,10 +105,7 @@ impl<'a> RawField<'a> {
         if !self.is_between(low, high) {
             return Err(self.refused(Cause::BadLength));
         }
-        match split_name(self.content) {
-            Some(parts) => Ok(parts),
-            None => Err(self.refused(Cause::BadContent)),
-        }
+        split_name(self.content).ok_or(self.refused(Cause::BadContent))
     }
 
     fn choice(&self) -> Result<Field<'a>, Refusal>
@@ -128,21 +124,21 @@ impl<'a> RawField<'a> {
         ensures parts_fit { IfOk result (PartsFit self.now.content.now) }
     {
         let (attribute, numbers) = self.sides(10, 25)?;
-        if numbers.len() != 8 {
-            return Err(self.refused(Cause::BadContent));
+        match numbers.as_chunks() {
+            ([from, to], []) => Ok(Field::Range(attribute, from, to)),
+            _ => Err(self.refused(Cause::BadContent)),
         }
-        Ok(Field::Range(attribute, &numbers[0..4], &numbers[4..8]))
     }
 
     fn measure(&self) -> Result<Field<'a>, Refusal>
         ensures says_what_is_laid_down { answer_by said result ≡ measure_said self.now.at self.now.content.now }
         ensures parts_fit { IfOk result (PartsFit self.now.content.now) }
     {
-        let (attribute, number) = self.sides(6, 21)?;
-        if number.len() != 4 {
-            return Err(self.refused(Cause::BadContent));
+        let (attribute, numbers) = self.sides(6, 21)?;
+        match numbers.as_chunks() {
+            ([number], []) => Ok(Field::Measure(attribute, number)),
+            _ => Err(self.refused(Cause::BadContent)),
         }
-        Ok(Field::Measure(attribute, number))
     }
 
     /// What the field says.

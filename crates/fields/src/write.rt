@@ -8,15 +8,8 @@ fn head(tag: u8, size: usize) -> [u8; 3]
     requires { size < 65536 }
     ensures { result ≡ tag ∷ (size / 256) ∷ (size % 256) ∷ [] }
 {
-    [tag, (size / 256) as u8, (size % 256) as u8]
-}
-
-/// Writes bytes at a place.
-fn overwrite(out: &mut [u8], at: usize, bytes: &[u8])
-    requires { at + length bytes.now ≤ length out.old }
-    ensures { out.new ≡ written out.old at bytes.now }
-{
-    out[at..at + bytes.len()].copy_from_slice(bytes);
+    let [high, low] = (size as u16).to_be_bytes();
+    [tag, high, low]
 }
 
 /// Writes bytes at a place, and answers the place after them.
@@ -25,8 +18,9 @@ pub fn put(out: &mut [u8], at: usize, bytes: &[u8]) -> usize
     ensures answers_the_place_after { result ≡ at + length bytes.now }
     ensures bytes_are_written { out.new ≡ written out.old at bytes.now }
 {
-    overwrite(out, at, bytes);
-    at + bytes.len()
+    let next = at + bytes.len();
+    out[at..next].copy_from_slice(bytes);
+    next
 }
 
 /// Writes a field at a place, and answers the place after it. Its content is a name, `=` and what the name is given.

@@ -1,8 +1,12 @@
 -- The vocabulary of an input and its fields, one after the other; what a `?` hands on.
-use Rattle.std.proofs.Common.{◌≡◌, ℕ, ◌<◌, ◌≤◌, Bool, true, false, cond, eqb, List, [], ◌∷◌, length, drop, Ok, Err, Result, sym, refl, ap, ◌∙◌, subst, arith}
+use Rattle.std.proofs.Common.{◌≡◌, ℕ, ◌<◌, ◌≤◌, Bool, true, false, cond, eqb, List, [], ◌∷◌, length, drop, Some, Ok, Err, Result, sym, refl, ap, ◌∙◌, subst, ap₂, arith}
 use Rattle.refusal.specs.declared.Refusal.{Refusal}
 use Rattle.refusal.specs.Answers.{Told, told_by, Answer, refuse, and_then}
 use Rattle.fields.specs.Fields.{Framed, field_at, reading}
+use Rattle.fields.specs.declared.RawField.{RawField}
+use Rattle.fields.specs.declared.sheet.Fields.{Fields}
+use Rattle.fields.specs.Shown.{bare}
+use Rattle.fields.specs.Sheet.{StandsAt, NextField}
 use Rattle.fields.proofs.Answering.{and_then_same}
 use Rattle.fields.proofs.Reading.{at_end, at_field, truncated_at, refused_at, goes_on_at}
 use Rattle.vocabulary.specs.Vocabulary.{Attribute, vocabulary_of}
@@ -82,26 +86,59 @@ module _ {S X : Type 0} (start : S) (serve : ℕ → List Attribute → S → Fr
       pub vocabulary_read : (v : List Attribute) → vocabulary_of f.content ≡ Ok v → Reached v next start
       vocabulary_read v q = sym (opening_leads (Ok (f, next)) e) ∙ ap (λ a. and_then (and_then a (λ v. Ok (v, next))) (λ o. served_from bs o start)) q
 
-    module _ (v : List Attribute) (at : ℕ) (s : S) (reached : Reached v at s) where
+    -- the walk is in the input, and the fields before its place are served
+    pub record ServedSoFar (v : List Attribute) (it : Fields) (s : S) : Type 0 where
+      pub same_bytes : it.bytes.now ≡ bs
+      pub reached : Reached v it.at s
+
+    -- a walk that begins where a state is reached
+    pub served_to : (v : List Attribute) (at : ℕ) (first it : Fields) (s t : S) → Reached v at s → StandsAt bs at first → it ≡ first → t ≡ s → ServedSoFar v it t
+    served_to v at first it s t r h e f =
+        record {
+          same_bytes = ap (λ (i : Fields). i.bytes.now) e ∙ h.of_the_bytes;
+          reached = r ∙ ap₂ (λ (i : ℕ) (x : S). served_from bs (v, i) x) (sym (ap (λ (i : Fields). i.at) e ∙ h.at_the_place)) (sym f);
+        }
+
+    module _ (v : List Attribute) (it : Fields) (s : S) (so_far : ServedSoFar v it s) where
       -- the input ends here
-      pub input_ended : length bs ≤ at → Ok (result v s) ≡ served start serve result bs
-      input_ended h = sym (reached ∙ ap (λ a. and_then a (finish result (length bs))) (at_end (step start serve) bs at (serving v s) h))
+      pub input_ended : length it.bytes.now ≤ it.at → Ok (result v s) ≡ served start serve result bs
+      input_ended h =
+          sym (so_far.reached ∙ ap (λ a. and_then a (finish result (length bs))) (at_end (step start serve) bs it.at (serving v s) (subst (λ x. length x ≤ it.at) so_far.same_bytes h)))
 
       -- the next field is cut short
-      pub field_truncated : at < length bs → (t : Told) → Err t ≡ field_at bs at → Err t ≡ served start serve result bs
-      field_truncated h t e = sym (reached ∙ ap (λ a. and_then a (finish result (length bs))) (truncated_at (step start serve) bs at (serving v s) t h (sym e)))
+      pub field_truncated : (r : Result RawField Refusal) (e : Refusal) (after : Fields) → NextField it (Some r) after → r ≡ Err e → Err (told_by e) ≡ served start serve result bs
+      field_truncated r e after m q =
+          let n = subst (λ x. NextField it (Some x) after) q m in
+          let inside : it.at < length bs = subst (λ x. it.at < length x) so_far.same_bytes n.0 in
+          let none : field_at bs it.at ≡ Err (told_by e) = sym (n.1 ∙ ap (λ x. field_at x it.at) so_far.same_bytes) in
+          sym (so_far.reached ∙ ap (λ a. and_then a (finish result (length bs))) (truncated_at (step start serve) bs it.at (serving v s) (told_by e) inside none))
 
-      module _ (h : at < length bs) (f : Framed) (next : ℕ) (e : Ok (f, next) ≡ field_at bs at) where
-        served_by : (a : Answer S) → a ≡ serve at v s f → step start serve at (serving v s) f ≡ and_then a (λ s'. Ok (serving v s'))
-        served_by a q = ap (λ a. and_then a (λ s'. Ok (serving v s'))) (sym q)
+      module _ (r : Result RawField Refusal) (raw : RawField) (after : Fields) (m : NextField it (Some r) after) (q : r ≡ Ok raw) where
+        served_by : (a : Answer S) → a ≡ serve raw.at v s (bare raw) → step start serve it.at (serving v s) (bare raw) ≡ and_then a (λ s'. Ok (serving v s'))
+        served_by a e =
+            let n = subst (λ x. NextField it (Some x) after) q m in
+            ap (λ (i : ℕ). and_then (serve i v s (bare raw)) (λ s'. Ok (serving v s'))) (sym n.2.place_is) ∙ ap (λ a. and_then a (λ s'. Ok (serving v s'))) (sym e)
+
+        lies : (field_at bs it.at ≡ Ok (bare raw, raw.next)) × (it.at < length bs)
+        lies =
+            let n = subst (λ x. NextField it (Some x) after) q m in
+            (sym (n.1 ∙ ap (λ x. field_at x it.at) so_far.same_bytes), subst (λ x. it.at < length x) so_far.same_bytes n.0)
 
         -- the next field is refused
-        pub field_refused : (t : Told) → Err t ≡ serve at v s f → Err t ≡ served start serve result bs
-        field_refused t q = sym (reached ∙ ap (λ a. and_then a (finish result (length bs))) (refused_at (step start serve) bs at (serving v s) f next t h (sym e) (served_by (Err t) q)))
+        pub field_refused : (t : Told) → Err t ≡ serve raw.at v s (bare raw) → Err t ≡ served start serve result bs
+        field_refused t e =
+            sym (so_far.reached ∙ ap (λ a. and_then a (finish result (length bs))) (refused_at (step start serve) bs it.at (serving v s) (bare raw) raw.next t lies.1 lies.0 (served_by (Err t) e)))
 
         -- the next field is served
-        pub field_served : (s' : S) → Ok s' ≡ serve at v s f → Reached v next s'
-        field_served s' q = reached ∙ ap (λ a. and_then a (finish result (length bs))) (goes_on_at (step start serve) bs at (serving v s) f next (serving v s') h (sym e) (served_by (Ok s') q))
+        pub field_served : (s' : S) → Ok s' ≡ serve raw.at v s (bare raw) → ServedSoFar v after s'
+        field_served s' e =
+            let n = subst (λ x. NextField it (Some x) after) q m in
+            record {
+              same_bytes = n.3.of_the_bytes ∙ so_far.same_bytes;
+              reached = so_far.reached
+                  ∙ ap (λ a. and_then a (finish result (length bs))) (goes_on_at (step start serve) bs it.at (serving v s) (bare raw) raw.next (serving v s') lies.1 lies.0 (served_by (Ok s') e))
+                  ∙ ap (λ (i : ℕ). served_from bs (v, i) s') (sym n.3.at_the_place);
+            }
 
 -- ---- what a `?` hands on
 module _ {X Y : Type 0} (show : X → Y) (r : Result X Failure) (y : Failure) (a : Answer Y) (e : r ≡ Err y) where

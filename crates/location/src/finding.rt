@@ -10,6 +10,7 @@ ghost use Rattle.location.specs.Shown.{place_shown, Answered};
 use crate::{Failure, Location};
 use fields::RawField;
 use fields::raw::next_field;
+use fields::sheet::Fields;
 use refusal::{Cause, Refusal};
 use request::reading::read_request;
 use std::alloc::Global;
@@ -50,11 +51,9 @@ pub fn locate(heap: Global, input: &[u8]) -> Result<Vec<Location>, Failure>
     let mut vocabulary = Vocabulary::new(first.content);
     vocabulary.read()?;
     let mut locations = Vec::new(heap);
-    let mut at = first.next;
-    while at < input.len() {
-        let raw = next_field(input, at)?;
+    for raw in Fields::from_place(input, first.next) {
+        let raw = raw?;
         locations.push(find(&vocabulary, &raw)?)?;
-        at = raw.next;
     }
     Ok(locations)
 }

@@ -4,43 +4,44 @@
 ghost use Rattle.std.specs.Prelude.{◌≡◌};
 ghost use Rattle.refusal.specs.Numbers.{number_of, layer_of, layer_number};
 
+use std::error::Error;
 use std::fmt;
 
-/// What is wrong.
+/// What is wrong, by its number.
 #[derive(Clone, Copy, PartialEq, Eq, Debug)]
 pub enum Cause {
-    Truncated,
-    UnexpectedTag,
-    BadLength,
-    BadContent,
-    SheetTooLong,
-    TooMany,
-    GridTooLarge,
-    RepeatedName,
-    UnknownAttribute,
-    ForeignValue,
-    RepeatedAttribute,
-    MissingAttribute,
-    UnexpectedText,
-    TooManyOpen,
-    TextTooLong,
-    NoSuchMark,
-    TargetTaken,
-    OperandVacant,
-    NoSuchCode,
-    CapacityLacking,
-    MemoryTooShort,
-    TooManyRecords,
-    Mismatch,
+    Truncated = 10,
+    UnexpectedTag = 11,
+    BadLength = 12,
+    BadContent = 13,
+    SheetTooLong = 14,
+    TooMany = 20,
+    GridTooLarge = 21,
+    RepeatedName = 22,
+    UnknownAttribute = 23,
+    ForeignValue = 24,
+    RepeatedAttribute = 25,
+    MissingAttribute = 26,
+    UnexpectedText = 30,
+    TooManyOpen = 31,
+    TextTooLong = 33,
+    NoSuchMark = 40,
+    TargetTaken = 41,
+    OperandVacant = 42,
+    NoSuchCode = 43,
+    CapacityLacking = 44,
+    MemoryTooShort = 45,
+    TooManyRecords = 46,
+    Mismatch = 47,
 }
 
-/// The part of the library that refuses.
+/// The part of the library that refuses, by its number.
 #[derive(Clone, Copy, PartialEq, Eq, Debug)]
 pub enum Layer {
-    Fields,
-    Words,
-    Text,
-    Collection,
+    Fields = 1,
+    Words = 2,
+    Text = 3,
+    Collection = 4,
 }
 
 /// A cause is shown by the sentence that explains it.
@@ -60,43 +61,19 @@ pub struct Refusal {
 /// A refusal is shown by its number, its place and the sentence.
 impl fmt::Display for Refusal {
     fn fmt<W: fmt::Write>(&self, f: &mut fmt::Formatter<W>) -> fmt::Result {
-        let number = self.number();
-        let place = self.place;
-        let cause = self.cause;
-        write!(f, "refused {number} {place}: {cause}")
+        let Refusal { cause, place } = *self;
+        write!(f, "refused {} {place}: {cause}", cause.number())
     }
 }
+
+impl Error for Refusal {}
 
 impl Cause {
     /// The number of this cause.
     pub fn number(self) -> u8
         ensures { result ≡ number_of self }
     {
-        match self {
-            Cause::Truncated => 10,
-            Cause::UnexpectedTag => 11,
-            Cause::BadLength => 12,
-            Cause::BadContent => 13,
-            Cause::SheetTooLong => 14,
-            Cause::TooMany => 20,
-            Cause::GridTooLarge => 21,
-            Cause::RepeatedName => 22,
-            Cause::UnknownAttribute => 23,
-            Cause::ForeignValue => 24,
-            Cause::RepeatedAttribute => 25,
-            Cause::MissingAttribute => 26,
-            Cause::UnexpectedText => 30,
-            Cause::TooManyOpen => 31,
-            Cause::TextTooLong => 33,
-            Cause::NoSuchMark => 40,
-            Cause::TargetTaken => 41,
-            Cause::OperandVacant => 42,
-            Cause::NoSuchCode => 43,
-            Cause::CapacityLacking => 44,
-            Cause::MemoryTooShort => 45,
-            Cause::TooManyRecords => 46,
-            Cause::Mismatch => 47,
-        }
+        self as u8
     }
 
     /// The layer of this cause: the tens of its number.

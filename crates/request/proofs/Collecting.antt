@@ -1,9 +1,7 @@
 -- Collecting the cells that were given.
-use Rattle.std.proofs.Common.{◌≡◌, ℕ, ◌+◌, ◌<◌, ◌≤◌, Bool, true, false, List, [], ◌∷◌, ◌++◌, length, get_or, drop, Some, None, Ok, Err, sym, refl, ap, ◌∙◌, append_assoc, arith}
+use Rattle.std.proofs.Common.{◌≡◌, ℕ, ◌+◌, ◌<◌, ◌≤◌, List, [], ◌∷◌, ◌++◌, length, get_or, drop, Some, None, Ok, Err, sym, refl, ap, ◌∙◌, append_assoc}
 use Rattle.std.proofs.lemmas.List.{at_drop_more, at_drop_all, append-nil}
 use Rattle.refusal.specs.Answers.{Answer, refuse, and_then}
-use Rattle.vocabulary.specs.declared.record.CellList.{CellList}
-use Rattle.vocabulary.specs.Record.{cells_of, Added}
 use Rattle.request.specs.Request.{Given, all_given}
 
 -- these cells, and then the others
@@ -30,8 +28,3 @@ module _ (end : ℕ) (st : Given) (cs : List ℕ) (i : ℕ) where
 
   pub whole : length st ≤ i → after cs (all_given end (drop i st)) ≡ Ok cs
   whole h = ap (after cs) (at_drop_all (all_given end) st i h) ∙ ap Ok (append-nil cs)
-
--- where fewer than eight are held, one more is
-pub held_more : (before : CellList) (cell : ℕ) (r : Bool) (later : CellList) → length (cells_of before) < 8 → Added before cell r later → cells_of later ≡ cells_of before ++ cell ∷ []
-held_more before cell true later h a = a.1
-held_more before cell false later h a = let e = a.0 in absurd (omega arith)

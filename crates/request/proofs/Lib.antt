@@ -2,7 +2,6 @@ pub mod Giving
 pub mod Written
 pub mod Reordering
 pub mod Worked
-pub mod Slots
 pub mod Collecting
 pub mod Celled
 pub mod Piecewise

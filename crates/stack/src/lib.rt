@@ -4,9 +4,20 @@
 ghost use Rattle.std.specs.Prelude.{◌≡◌, ◌-◌, ◌<◌, ◌≤◌, true, false, length, MatchOption, MatchResult};
 ghost use Rattle.stack.specs.Entries.{Empty, Newest, Pushed, Refused, Reversed, TooFewSlots};
 
+use std::error::Error;
+use std::fmt;
+
 /// Each slot holds an entry.
 #[derive(Clone, Copy, PartialEq, Eq, Debug)]
 pub struct Full;
+
+impl fmt::Display for Full {
+    fn fmt<W: fmt::Write>(&self, f: &mut fmt::Formatter<W>) -> fmt::Result {
+        f.write_str("each slot holds an entry")
+    }
+}
+
+impl Error for Full {}
 
 /// The entries stand in the first `len` slots, the newest last.
 #[derive(Drop)]
@@ -54,13 +65,12 @@ impl<'a, T: Copy> Stack<'a, T> {
         ensures same_slots { self.new.slots.ghost_name ≡ self.old.slots.ghost_name }
         ensures pushed_or_full { MatchResult result (λ _. Pushed self.old.slots.now self.old.len x self.new.slots.now self.new.len) (λ _. Refused self.old.slots.now self.old.len self.new.slots.now self.new.len) }
     {
-        if self.len < self.slots.len() {
-            self.slots[self.len] = x;
-            self.len += 1;
-            Ok(())
-        } else {
-            Err(Full)
+        if self.is_full() {
+            return Err(Full);
         }
+        self.slots[self.len] = x;
+        self.len += 1;
+        Ok(())
     }
 
     /// Takes the newest entry off; no slot is written.
@@ -78,21 +88,8 @@ impl<'a, T: Copy> Stack<'a, T> {
     pub fn top(&self) -> Option<T>
         ensures { MatchOption result (self.now.len ≡ 0) (λ x. Newest self.now.slots.now self.now.len x (self.now.len - 1)) }
     {
-        if self.len == 0 {
-            None
-        } else {
-            Some(newest(self.slots, self.len))
-        }
+        self.slots[..self.len].last().copied()
     }
-}
-
-/// The newest of `len` entries.
-fn newest<T: Copy>(slots: &[T], len: usize) -> T
-    requires has_an_entry { 0 < len }
-    requires entries_are_in_the_slots { len ≤ length slots.now }
-    ensures { Newest slots.now len result (len - 1) }
-{
-    slots[len - 1]
 }
 
 /// Reverses the items by a stack over the slots: what is pushed last is popped first.
@@ -100,13 +97,11 @@ pub fn reverse_by_stack<T: Copy>(slots: &mut [T], items: &mut [T]) -> Result<(),
     ensures { MatchResult result (λ _. Reversed slots.old slots.new items.old items.new) (λ _. TooFewSlots slots.old items.old items.new) }
 {
     let mut stack = Stack::new(slots);
-    for i in 0..items.len() {
-        stack.push(items[i])?;
+    for x in items.iter() {
+        stack.push(*x)?;
     }
-    let mut n = 0;
-    while let Some(x) = stack.pop() {
-        items[n] = x;
-        n += 1;
+    for item in items.iter_mut() {
+        *item = stack.pop().unwrap();
     }
     Ok(())
 }

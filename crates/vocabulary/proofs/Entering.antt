@@ -1,23 +1,23 @@
 -- What becomes of a vocabulary when a field is entered.
-use Rattle.std.proofs.Common.{◌≡◌, ℕ, suc, ◌+◌, ◌-◌, ◌*◌, ◌<◌, ◌≤◌, Bool, true, false, cond, ◌||◌, leb, List, [], ◌∷◌, ◌++◌, map, length, take, drop, is_some, Some, None, Ok, Option, sym, refl, ap, ◌∙◌, ap₂, arith, length-take, le-leb}
+use Rattle.std.proofs.Common.{◌≡◌, ℕ, suc, ◌+◌, ◌*◌, ◌<◌, ◌≤◌, Bool, true, false, cond, ◌||◌, leb, List, [], ◌∷◌, ◌++◌, map, length, take, drop, is_some, Some, None, Ok, Option, sym, refl, ap, ◌∙◌, ap₂, arith, le-leb}
 use lib.ListN.{length-map}
 use Rattle.std.proofs.lemmas.Bool.{cond-true, cond-false}
 use Rattle.std.proofs.lemmas.Bool.Decides.{nat_tests}
 use Rattle.refusal.specs.Answers.{refuse}
+use Rattle.short_list.specs.declared.ShortList.{ShortList}
+use Rattle.short_list.specs.Items.{items_of}
 use Rattle.fields.specs.Words.{equal}
 use Rattle.fields.specs.declared.RawField.{RawField}
 use Rattle.vocabulary.specs.declared.parts.Span.{Span}
-use Rattle.vocabulary.specs.declared.parts.Cuts.{Cuts}
 use Rattle.vocabulary.specs.declared.parts.Kind.{Kind}
 use Rattle.vocabulary.specs.declared.parts.Kind.TheVariants.{Valued, Ranged}
 use Rattle.vocabulary.specs.declared.parts.Attribute.{Attribute}
-use Rattle.vocabulary.specs.declared.parts.Names.{Names}
 use Rattle.vocabulary.specs.declared.attributes.Attributes.{Attributes}
 use Rattle.vocabulary.specs.Vocabulary as said
 use Rattle.vocabulary.specs.Grid.{grid}
 use Rattle.vocabulary.specs.Vocabulary.{place, later, is_known, names_of, count, shape_of, open_attribute, opened, in_grid, add_value, listing}
 use Rattle.vocabulary.specs.Counted.{cells_in, counts_in}
-use Rattle.vocabulary.specs.Parts.{name_at, names_in, cuts_in, kind_in, attribute_in, attributes_in, NamedBy}
+use Rattle.vocabulary.specs.Parts.{name_at, names_in, kind_in, attribute_in, attributes_in, NamedBy}
 
 -- a name is known where it has a place
 pub known_place : (n : List ℕ) (ms : List (List ℕ)) → is_known n ms ≡ is_some (place n ms)
@@ -37,20 +37,17 @@ pub names_of_lem : (bs : List ℕ) (items : List Attribute) → names_of (map (a
 names_of_lem bs [] = refl
 names_of_lem bs (a ∷ items) = ap (λ r. name_at bs a.name ∷ r) (names_of_lem bs items)
 
--- there are as many attributes as the code counts
-pub how_many_attributes : (bs : List ℕ) (v : Attributes) → length (attributes_in bs v) ≡ v.len
-how_many_attributes bs v = let h = v.held in simp (length-map, length-take) (omega arith)
+-- there are as many attributes and names as the code counts
+pub how_many_attributes : (bs : List ℕ) (v : Attributes) → length (attributes_in bs v) ≡ length (items_of v.items)
+how_many_attributes bs v = length-map (items_of v.items) (attribute_in bs)
 
-pub how_many_names : (bs : List ℕ) (n : Names) → length (names_in bs n) ≡ n.len
-how_many_names bs n = let h = n.held in simp (length-map, length-take) (omega arith)
-
-pub how_many_cuts : (c : Cuts) → length (cuts_in c) ≡ c.len
-how_many_cuts c = let h = c.held in simp length-take (omega arith)
+pub how_many_names : (bs : List ℕ) (n : ShortList Span 16) → length (names_in bs n) ≡ length (items_of n)
+how_many_names bs n = length-map (items_of n) (name_at bs)
 
 -- the cells of an attribute are those that the code counts
 count_cells : (bs : List ℕ) (k : Kind) → count (kind_in bs k) ≡ cells_in k
 count_cells bs (Valued n) = how_many_names bs n
-count_cells bs (Ranged c) = ap (λ (m : ℕ). m - 1) (how_many_cuts c)
+count_cells bs (Ranged c) = refl
 
 pub shape_of_lem : (bs : List ℕ) (items : List Attribute) → shape_of (map (attribute_in bs) items) ≡ counts_in items
 shape_of_lem bs [] = refl
@@ -58,7 +55,7 @@ shape_of_lem bs (a ∷ items) = ap₂ ◌∷◌ (count_cells bs a.kind) (shape_o
 
 -- so the product that the code keeps is the grid
 pub size_of : (bs : List ℕ) (v : Attributes) → grid (shape_of (attributes_in bs v)) ≡ v.size
-size_of bs v = ap grid (shape_of_lem bs (take v.len v.items)) ∙ sym v.sized
+size_of bs v = ap grid (shape_of_lem bs (items_of v.items)) ∙ sym v.sized
 
 -- a name that is the whole content of a field stands at the field's span
 pub named-at : (bs : List ℕ) (f : RawField) (name : List ℕ) (s : Span) → NamedBy bs f name → s.from ≡ f.at + 3 → s.len ≡ length f.content.now → name ≡ name_at bs s

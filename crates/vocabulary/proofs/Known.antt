@@ -1,11 +1,13 @@
 -- Names among names: where one stands, whether it is known, and that all are distinct.
-use Rattle.std.proofs.Common.{◌≡◌, ℕ, zero, suc, ◌<◌, Bool, true, false, cond, ◌≢◌, List, [], ◌∷◌, ◌++◌, length, get_or, Some, None, Option, sym, refl, ap, ◌∙◌, arith}
+use Rattle.std.proofs.Common.{◌≡◌, ℕ, zero, suc, ◌<◌, false, ◌≢◌, List, [], ◌∷◌, ◌++◌, length, get_or, Some, sym, ap, ◌∙◌, arith}
 use lib.ListN.{length-map}
 use Rattle.std.proofs.ByRecursion.{All-get_or, All-push}
 use Rattle.std.proofs.lemmas.Bool.{both_ways, or_parts, cond-true, cond-false}
+use Rattle.std.proofs.lemmas.List.{map-id}
 use Rattle.fields.specs.Words.{equal}
 use Rattle.fields.proofs.Naming.{equal_self, not_equal}
 use Rattle.vocabulary.specs.Vocabulary.{Attribute, names_of, later, place, is_known, Distinct}
+use Rattle.vocabulary.proofs.Spans.{name_stands, position_below}
 
 -- among distinct names each is found where it stands, for those before it are others
 pub place_at : (names : List (List ℕ)) (i : ℕ) → i < length names → Distinct names → place (get_or names i []) names ≡ Some i
@@ -18,13 +20,7 @@ place_at (m ∷ ms) (suc i) h d =
 
 -- a place that is found is one in the list
 pub place-below : (n : List ℕ) (names : List (List ℕ)) (i : ℕ) → place n names ≡ Some i → i < length names
-place-below n [] i e = let z : ◌≡◌ {A = ℕ} 0 1 = cc in absurd (omega arith)
-place-below n (m ∷ ms) i e = go (equal n m) (place n ms) (λ j p. place-below n ms j p) e
-  where
-    go : (b : Bool) (o : Option ℕ) → ((j : ℕ) → o ≡ Some j → j < length ms) → cond b (Some 0) (later o) ≡ Some i → i < suc (length ms)
-    go true o p d = let z : ◌≡◌ {A = ℕ} 0 i = cc in omega arith
-    go false None p d = let z : ◌≡◌ {A = ℕ} 0 1 = cc in absurd (omega arith)
-    go false (Some j) p d = let l = p j refl in let z : suc j ≡ i = cc in omega arith
+place-below n names i e = position_below (equal n) names i (name_stands (λ m. m) n names ∙ ap (place n) (map-id names) ∙ e)
 
 -- so an attribute that is found by name is one of the vocabulary
 pub attribute_below : (v : List Attribute) (n : List ℕ) (i : ℕ) → Some i ≡ place n (names_of v) → i < length v

@@ -1,10 +1,12 @@
--- Names by their spans, and looking for a name.
-use Rattle.std.proofs.Common.{◌≡◌, ℕ, zero, suc, ◌+◌, ◌-◌, ◌<◌, ◌≤◌, min, cond, List, [], ◌∷◌, map, length, get_or, take, drop, Some, None, Option, sym, refl, ap, ◌∙◌, arith}
-use Rattle.std.proofs.lemmas.List.{at_drop_more, at_drop_all, take_rest}
-use Rattle.std.proofs.lemmas.Bool.{cond-true, cond-false}
+-- Names by their spans, and looking for a name or a number.
+use Rattle.std.proofs.Common.{◌≡◌, ℕ, zero, suc, ◌+◌, ◌-◌, ◌<◌, min, Bool, true, false, cond, not, ltb, List, [], ◌∷◌, map, length, take, drop, ℤ, Some, None, Option, position, refl, ap, ◌∙◌, arith}
+use Rattle.std.specs.List.{position_or_len}
+use Rattle.std.proofs.lemmas.List.{take_rest}
+use Rattle.std.proofs.lemmas.Bool.{cond-true, cond-false, lt-ltb, ltb-true}
+use Rattle.std.proofs.lemmas.Bool.Decides.{nat_tests}
 use Rattle.fields.specs.Words.{equal}
-use Rattle.fields.proofs.Naming.{equal-decides, not_equal}
 use Rattle.vocabulary.specs.Vocabulary.{place, later}
+use Rattle.vocabulary.specs.Lookup.{same_number, cut_place}
 
 take_none : {X : Type 0} (n : ℕ) → ◌≡◌ {A = List X} [] (take n [])
 take_none zero = refl
@@ -32,47 +34,38 @@ drop_min (suc n) (x ∷ xs) =
 
 -- so a span that passes the end gives what there is
 pub span_within : (bs : List ℕ) (from len a b : ℕ) → a ≡ min (length bs) from → b ≡ min (length (take (length bs - a) (drop a bs))) len
-    → take (b - 0) (take (length bs - a) (drop a bs)) ≡ take len (drop from bs)
+    → take b (take (length bs - a) (drop a bs)) ≡ take len (drop from bs)
 span_within bs from len a b ea eb =
     let rest : take (length bs - a) (drop a bs) ≡ drop from bs = take_rest bs a ∙ ap (λ (m : ℕ). drop m bs) ea ∙ drop_min from bs in
-    let z : b - 0 ≡ min (length (take (length bs - a) (drop a bs))) len = omega arith in
-    ap (λ (m : ℕ). take m (take (length bs - a) (drop a bs))) z ∙ take_min len (take (length bs - a) (drop a bs)) ∙ ap (take len) rest
+    ap (λ (m : ℕ). take m (take (length bs - a) (drop a bs))) eb ∙ take_min len (take (length bs - a) (drop a bs)) ∙ ap (take len) rest
 
--- a place in what is left after i
-abbrev pub from : ℕ → Option ℕ → Option ℕ
-from i None = None
-from i (Some j) = Some (i + j)
+-- ---- the first item that passes a test
+-- the first item passes, or it is looked for behind it
+pub position_cons : {T : Type 0} (p : T → Bool) (x : T) (xs : List T) → position p (x ∷ xs) ≡ cond (p x) (Some 0) (later (position p xs))
+position_cons p x xs = go (p x) (position_or_len p xs) (length xs)
+  where
+    behind : (t : Bool) (i n : ℕ) → ltb i n ≡ t → cond {A = Option ℕ} (ltb (1 + i) (suc n)) (Some (1 + i)) None ≡ later (cond t (Some i) None)
+    behind true i n e = let l : ltb (1 + i) (suc n) ≡ true = grind (arith, nat_tests) in let s : 1 + i ≡ suc i = omega arith in cond-true _ _ _ l ∙ ap Some s
+    behind false i n e = let l : ltb (1 + i) (suc n) ≡ false = grind (arith, nat_tests) in cond-false _ _ _ l
 
-pub from-later : (i : ℕ) (o : Option ℕ) → from i (later o) ≡ from (i + 1) o
-from-later i None = refl
-from-later i (Some j) = let e : i + suc j ≡ i + 1 + j = omega arith in ap Some e
+    go : (t : Bool) (i n : ℕ) → cond {A = Option ℕ} (ltb (cond (not t) (1 + i) 0) (suc n)) (Some (cond (not t) (1 + i) 0)) None ≡ cond t (Some 0) (later (cond (ltb i n) (Some i) None))
+    go true i n = cond-true _ _ _ (lt-ltb 0 (suc n) (omega arith))
+    go false i n = behind (ltb i n) i n refl
 
-pub from_start : (o : Option ℕ) → o ≡ from 0 o
-from_start None = refl
-from_start (Some j) = let e : j ≡ 0 + j = omega arith in ap Some e
+-- a name stands where the test for it first passes
+pub name_stands : {T : Type 0} (called : T → List ℕ) (n : List ℕ) (items : List T) → position (λ x. equal n (called x)) items ≡ place n (map called items)
+name_stands called n [] = refl
+name_stands called n (x ∷ xs) = position_cons (λ x. equal n (called x)) x xs ∙ ap (λ o. cond (equal n (called x)) (Some 0) (later o)) (name_stands called n xs)
 
-module _ {T : Type 0} (called : T → List ℕ) (items : List T) (n : List ℕ) where
-  pub found_start : place n (map called items) ≡ from 0 (place n (map called (drop 0 items)))
-  found_start = from_start (place n (map called items))
+-- and a cut
+pub cut_stands : (x : ℤ) (zs : List ℤ) → position (λ z. same_number x z) zs ≡ cut_place x zs
+cut_stands x [] = refl
+cut_stands x (z ∷ zs) = position_cons (λ z. same_number x z) z zs ∙ ap (λ o. cond (same_number x z) (Some 0) (later o)) (cut_stands x zs)
 
-  one : (i : ℕ) (x : T) → i < length items → x ≡ get_or items i x
-      → place n (map called (drop i items)) ≡ cond (equal n (called x)) (Some 0) (later (place n (map called (drop (i + 1) items))))
-  one i x h e = at_drop_more (λ l. place n (map called l)) items i x h ∙ ap (λ y. place n (map called (y ∷ drop (i + 1) items))) (sym e)
-
-  -- the item has the name
-  pub found_here : (i : ℕ) (x : T) → i < length items → x ≡ get_or items i x → called x ≡ n
-      → from i (place n (map called (drop i items))) ≡ Some i
-  found_here i x h e s =
-      let z : i + 0 ≡ i = omega arith in
-      ap (from i) (one i x h e ∙ cond-true (equal n (called x)) (Some 0) (later (place n (map called (drop (i + 1) items)))) ((equal-decides n (called x)).1 (sym s))) ∙ ap Some z
-
-  -- it has another: look behind it
-  pub found-later : (i : ℕ) (x : T) → i < length items → x ≡ get_or items i x → (called x ≡ n → ⊥)
-      → from i (place n (map called (drop i items))) ≡ from (i + 1) (place n (map called (drop (i + 1) items)))
-  found-later i x h e s =
-      ap (from i) (one i x h e ∙ cond-false (equal n (called x)) (Some 0) (later (place n (map called (drop (i + 1) items)))) (not_equal n (called x) (λ q. s (sym q))))
-      ∙ from-later i (place n (map called (drop (i + 1) items)))
-
-  -- none is left
-  pub found_nowhere : (i : ℕ) → length items ≤ i → from i (place n (map called (drop i items))) ≡ None
-  found_nowhere i h = at_drop_all (λ l. from i (place n (map called l))) items i h
+-- what is found is one of the items
+pub position_below : {T : Type 0} (p : T → Bool) (xs : List T) (i : ℕ) → position p xs ≡ Some i → i < length xs
+position_below p xs i e = go (ltb (position_or_len p xs) (length xs)) refl e
+  where
+    go : (t : Bool) → ltb (position_or_len p xs) (length xs) ≡ t → ◌≡◌ {A = Option ℕ} (cond t (Some (position_or_len p xs)) None) (Some i) → i < length xs
+    go true t d = let l = ltb-true _ _ t in let s : position_or_len p xs ≡ i = cc in omega arith
+    go false t d = let z : ◌≡◌ {A = ℕ} 0 1 = cc in absurd (omega arith)

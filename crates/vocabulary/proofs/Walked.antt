@@ -1,8 +1,9 @@
 -- Cells and grid numbers, attribute by attribute.
-use Rattle.std.proofs.Common.{◌≡◌, ℕ, zero, suc, ◌+◌, ◌*◌, ◌/◌, ◌%◌, ◌<◌, ◌≤◌, Bool, true, false, cond, ◌&&◌, ltb, List, [], ◌∷◌, ◌++◌, length, get_or, take, drop, set, Some, None, Option, sym, refl, ap, ◌∙◌, subst, mul-le-mul_right, mul_assoc, mul_comm, div-lt_iff_lt-mul, add-mul, mul-pos, one-mul, zero-mul, le-mul_of_pos_right, arith, length-take}
+use Rattle.std.proofs.Common.{◌≡◌, ℕ, zero, suc, ◌+◌, ◌*◌, ◌/◌, ◌%◌, ◌<◌, ◌≤◌, Bool, true, false, cond, ◌&&◌, ltb, List, [], ◌∷◌, ◌++◌, length, get_or, drop, Some, None, Option, sym, refl, ap, ◌∙◌, subst, mul-le-mul_right, mul_assoc, mul_comm, div-lt_iff_lt-mul, add-mul, mul-pos, one-mul, zero-mul, le-mul_of_pos_right, arith}
 use native.Mathlib.Nat.{mul-div_cancel_left}
-use Rattle.std.proofs.lemmas.List.{append-nil, append_assoc, at_drop_more, at_drop_all, take_more_set}
+use Rattle.std.proofs.lemmas.List.{append-nil, append_assoc, at_drop_more, at_drop_all}
 use Rattle.std.proofs.lemmas.Bool.{lt-ltb, le-ltb, cond-true, cond-false}
+use Rattle.short_list.proofs.Few.{few_items}
 use Rattle.fields.specs.Fields.{when}
 use Rattle.std.specs.List.{AllByRecursion}
 use Rattle.vocabulary.specs.declared.record.Shape.{Shape}
@@ -13,9 +14,9 @@ use Rattle.vocabulary.proofs.Gridded.{factor_positive, grid_filled}
 use Rattle.vocabulary.proofs.Truncated.{narrow_out}
 
 -- ---- the counts of a shape
--- there are as many as the code counts
-pub how_many_counts : (s : Shape) → length (counts_of s) ≡ s.len
-how_many_counts s = let h = s.held in simp length-take (omega arith)
+-- there are eight at most
+pub counts_are_few : (s : Shape) → length (counts_of s) ≤ 8
+counts_are_few s = few_items s.counts
 
 -- none is above sixteen
 pub counts_are_narrow : (s : Shape) → Narrow (counts_of s)
@@ -125,34 +126,34 @@ module _ (ns : List ℕ) (i : ℕ) (h : i < length ns) where
       omega (arith, number-within n c b w)
 
 -- ---- from a number to its cells
-module _ (ns : List ℕ) (i g size : ℕ) (h : i < length ns) (e : size ≡ grid (drop i ns)) (b : g < size) where
-  below : g < get_or ns i 0 * grid (drop (i + 1) ns)
-  below = subst (λ (m : ℕ). g < m) (e ∙ grid_more ns i h) b
+module _ (ns : List ℕ) (i g size k : ℕ) (h : i < length ns) (is : k ≡ get_or ns i 0) (e : size ≡ grid (drop i ns)) (b : g < size) where
+  one_count : size ≡ k * grid (drop (i + 1) ns)
+  one_count = e ∙ grid_more ns i h ∙ ap (λ (m : ℕ). m * grid (drop (i + 1) ns)) (sym is)
+
+  below : g < k * grid (drop (i + 1) ns)
+  below = subst (λ (m : ℕ). g < m) one_count b
 
   -- a count is not zero where the grid has a number
-  pub count_positive : 0 < get_or ns i 0
-  count_positive = factor_positive g (grid (drop (i + 1) ns)) (get_or ns i 0) (subst (λ (m : ℕ). g < m) (mul_comm (get_or ns i 0) (grid (drop (i + 1) ns))) below)
+  pub count_positive : 0 < k
+  count_positive = factor_positive g (grid (drop (i + 1) ns)) k (subst (λ (m : ℕ). g < m) (mul_comm k (grid (drop (i + 1) ns))) below)
 
   -- dividing by it gives the grid of the rest
-  pub size_more : size / get_or ns i 0 ≡ grid (drop (i + 1) ns)
-  size_more = ap (λ (m : ℕ). m / get_or ns i 0) (e ∙ grid_more ns i h) ∙ mul-div_cancel_left (grid (drop (i + 1) ns)) count_positive
+  pub size_more : size / k ≡ grid (drop (i + 1) ns)
+  size_more = ap (λ (m : ℕ). m / k) one_count ∙ mul-div_cancel_left (grid (drop (i + 1) ns)) count_positive
 
-  pub size_positive : 0 < size / get_or ns i 0
-  size_positive = subst (λ (m : ℕ). 0 < m) (sym size_more) (factor_positive g (get_or ns i 0) (grid (drop (i + 1) ns)) below)
+  pub size_positive : 0 < size / k
+  size_positive = subst (λ (m : ℕ). 0 < m) (sym size_more) (factor_positive g k (grid (drop (i + 1) ns)) below)
 
   -- the cell is below its count
-  pub cell_below : g / (size / get_or ns i 0) < get_or ns i 0
-  cell_below = (div-lt_iff_lt-mul size_positive).1 (subst (λ (m : ℕ). g < get_or ns i 0 * m) (sym size_more) below)
+  pub cell_below : g / (size / k) < k
+  cell_below = (div-lt_iff_lt-mul size_positive).1 (subst (λ (m : ℕ). g < k * m) (sym size_more) below)
 
   -- it stands behind the cells before it, and the others follow
-  pub cells_more : (cells all : List ℕ) → i < length cells → all ≡ take i cells ++ cells_at (drop i ns) g
-      → all ≡ take (i + 1) (set cells i (g / (size / get_or ns i 0))) ++ cells_at (drop (i + 1) ns) (g % (size / get_or ns i 0))
-  cells_more cells all l s =
-      let c : ℕ = g / (size / get_or ns i 0) in
-      let rest : List ℕ = cells_at (drop (i + 1) ns) (g % (size / get_or ns i 0)) in
-      s ∙ ap (λ r. take i cells ++ r) (at_drop_more (λ x. cells_at x g) ns i 0 h ∙ ap (λ (m : ℕ). (g / m) ∷ cells_at (drop (i + 1) ns) (g % m)) (sym size_more))
-      ∙ sym (ap (λ f. f ++ rest) (take_more_set cells i c l) ∙ append_assoc (take i cells) (c ∷ []) rest)
+  pub cells_more : (cells all : List ℕ) → all ≡ cells ++ cells_at (drop i ns) g → all ≡ (cells ++ (g / (size / k)) ∷ []) ++ cells_at (drop (i + 1) ns) (g % (size / k))
+  cells_more cells all s =
+      s ∙ ap (λ r. cells ++ r) (at_drop_more (λ x. cells_at x g) ns i 0 h ∙ ap (λ (m : ℕ). (g / m) ∷ cells_at (drop (i + 1) ns) (g % m)) (sym size_more))
+      ∙ sym (append_assoc cells ((g / (size / k)) ∷ []) (cells_at (drop (i + 1) ns) (g % (size / k))))
 
 -- behind the last attribute no cell follows
-pub cells_end : (ns : List ℕ) (i g : ℕ) (cells all : List ℕ) → length ns ≤ i → all ≡ take i cells ++ cells_at (drop i ns) g → take i cells ≡ all
-cells_end ns i g cells all h s = sym (s ∙ at_drop_all (λ x. take i cells ++ cells_at x g) ns i h ∙ append-nil (take i cells))
+pub cells_end : (ns : List ℕ) (i g : ℕ) (cells all : List ℕ) → length ns ≤ i → all ≡ cells ++ cells_at (drop i ns) g → cells ≡ all
+cells_end ns i g cells all h s = sym (s ∙ at_drop_all (λ x. cells ++ cells_at x g) ns i h ∙ append-nil cells)

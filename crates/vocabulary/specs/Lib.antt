@@ -3,5 +3,6 @@ pub mod Cells
 pub mod Vocabulary
 pub mod Counted
 pub mod Lookup
+pub mod Room
 pub mod Parts
 pub mod Record

@@ -21,6 +21,11 @@ abbrev pub number_cell : Kind → ℤ → Option ℕ
 number_cell (valued names) x = None
 number_cell (ranged zs) x = cell_of zs x
 
+-- the cuts of an attribute that has cuts
+abbrev pub cuts_if : Kind → Option (List ℤ)
+cuts_if (valued names) = None
+cuts_if (ranged zs) = Some zs
+
 -- two whole numbers are equal
 abbrev pub same_number : ℤ → ℤ → Bool
 same_number (pos a) (pos b) = a == b

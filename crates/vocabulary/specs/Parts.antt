@@ -1,11 +1,11 @@
 -- The code's parts of a vocabulary, in the words of the formats.
-use Rattle.std.specs.Prelude.{◌≡◌, ℕ, ◌+◌, ◌-◌, ◌*◌, ◌<◌, ◌≤◌, List, map, length, take, drop, ℤ, Ok, Err, Result}
+use Rattle.std.specs.Prelude.{◌≡◌, ℕ, ◌+◌, ◌≤◌, List, map, length, take, drop, ℤ, Ok, Err, Result}
 use Rattle.refusal.specs.declared.Refusal.{Refusal}
 use Rattle.refusal.specs.Answers.{Answer, told_by}
+use Rattle.short_list.specs.declared.ShortList.{ShortList}
+use Rattle.short_list.specs.Items.{items_of}
 use Rattle.fields.specs.declared.RawField.{RawField}
 use Rattle.vocabulary.specs.declared.parts.Span.{Span}
-use Rattle.vocabulary.specs.declared.parts.Names.{Names}
-use Rattle.vocabulary.specs.declared.parts.Cuts.{Cuts}
 use Rattle.vocabulary.specs.declared.parts.Kind.{Kind}
 use Rattle.vocabulary.specs.declared.parts.Kind.TheVariants.{Valued, Ranged}
 use Rattle.vocabulary.specs.declared.parts.Attribute.{Attribute}
@@ -20,12 +20,12 @@ abbrev pub name_at : List ℕ → Span → List ℕ
 name_at bs s = take s.len (drop s.from bs)
 
 -- the names that spans cut out of the bytes
-abbrev pub names_in : List ℕ → Names → List (List ℕ)
-names_in bs n = map (name_at bs) (take n.len n.spans)
+abbrev pub names_in : List ℕ → ShortList Span 16 → List (List ℕ)
+names_in bs n = map (name_at bs) (items_of n)
 
 -- the cuts that count
-abbrev pub cuts_in : Cuts → List ℤ
-cuts_in c = take c.len c.numbers
+abbrev pub cuts_in : ShortList ℤ 17 → List ℤ
+cuts_in c = items_of c
 
 -- the kind of an attribute, read from the bytes
 abbrev pub kind_in : List ℕ → Kind → said.Kind
@@ -38,7 +38,7 @@ attribute_in bs a = said.named (name_at bs a.name) (kind_in bs a.kind)
 
 -- the attributes that count, read from the bytes
 abbrev pub attributes_in : List ℕ → Attributes → List said.Attribute
-attributes_in bs v = map (attribute_in bs) (take v.len v.items)
+attributes_in bs v = map (attribute_in bs) (items_of v.items)
 
 -- how far reading has come, read from the bytes
 abbrev pub progress_in : List ℕ → List said.Attribute → State → said.Progress
@@ -48,23 +48,12 @@ progress_in bs whole (Listing n names) = said.listing whole (name_at bs n) (name
 progress_in bs whole (Bounded n cuts) = said.bounded whole (name_at bs n) (cuts_in cuts)
 
 -- how far the code has read
-abbrev pub progress : List ℕ → Reader → said.Progress
-progress bs r = progress_in bs (attributes_in bs r.whole) r.state
+abbrev pub progress : Reader → said.Progress
+progress r = progress_in r.sheet.now (attributes_in r.sheet.now r.whole) r.state
 
--- there is room for the attribute that is being read, and its cells fit
-abbrev pub RoomIn : State → ℕ → ℕ → Type 0
-RoomIn Start len size = len ≡ 0
-RoomIn (Opened n) len size = len < 8
-RoomIn (Listing n names) len size = (len < 8) × (size * names.len ≤ 4096)
-RoomIn (Bounded n cuts) len size = (len < 8) × (size * (cuts.len - 1) ≤ 4096)
-
--- what a reader keeps has room in its arrays
-abbrev pub Room : Reader → Type 0
-Room r = RoomIn r.state r.whole.len r.whole.size
-
--- a reader after a step, or its refusal, is as laid down
+-- a reader of the sheet after a step, or its refusal, is as laid down
 abbrev pub Stepped : List ℕ → Answer said.Progress → Result (Unit {0}) Refusal → Reader → Type 0
-Stepped bs a (Ok u) r = (a ≡ Ok (progress bs r)) × Room r
+Stepped bs a (Ok u) r = (a ≡ Ok (progress r)) × (r.sheet.now ≡ bs)
 Stepped bs a (Err e) r = a ≡ Err (told_by e)
 
 -- the name is the whole content of a field, which lies in the sheet

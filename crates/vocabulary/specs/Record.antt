@@ -1,10 +1,11 @@
 -- A vocabulary that has been read, in the words of the formats.
-use Rattle.std.specs.Prelude.{◌≡◌, ℕ, ◌<◌, Bool, true, false, List, [], ◌∷◌, ◌++◌, length, take, Ok, Err, Result}
+use Rattle.std.specs.Prelude.{◌≡◌, ℕ, List, Ok, Err, Result}
+use Rattle.short_list.specs.declared.ShortList.{ShortList}
+use Rattle.short_list.specs.Items.{items_of}
 use Rattle.refusal.specs.declared.Refusal.{Refusal}
 use Rattle.refusal.specs.Answers.{told_by}
 use Rattle.vocabulary.specs.declared.record.Vocabulary.{Vocabulary}
 use Rattle.vocabulary.specs.declared.record.Shape.{Shape}
-use Rattle.vocabulary.specs.declared.record.CellList.{CellList}
 use Rattle.vocabulary.specs.Vocabulary.{Attribute, vocabulary_of}
 use Rattle.vocabulary.specs.declared.record.Label.{Label}
 use Rattle.vocabulary.specs.declared.record.Label.TheVariants.{Name, Number}
@@ -22,7 +23,7 @@ label_shown (Number x) = lookup.by_number x
 
 -- the cell counts of a shape
 abbrev pub counts_of : Shape → List ℕ
-counts_of s = take s.len s.counts
+counts_of s = items_of s.counts
 
 -- the sheet was read in place, or refused and the vocabulary is as it was
 abbrev pub ReadInPlace : Vocabulary → Result (Unit {0}) Refusal → Vocabulary → Type 0
@@ -30,10 +31,5 @@ ReadInPlace before (Ok u) after = (after.sheet.now ≡ before.sheet.now) × (voc
 ReadInPlace before (Err e) after = (after ≡ before) × (vocabulary_of before.sheet.now ≡ Err (told_by e))
 
 -- the cells that a list holds, in order
-abbrev pub cells_of : CellList → List ℕ
-cells_of l = take l.len l.cells
-
--- the cell was added at the end, or there are eight and the list is as it was
-abbrev pub Added : CellList → ℕ → Bool → CellList → Type 0
-Added before cell true after = (length (cells_of before) < 8) × (cells_of after ≡ cells_of before ++ cell ∷ [])
-Added before cell false after = (length (cells_of before) ≡ 8) × (after ≡ before)
+abbrev pub cells_of : ShortList ℕ 8 → List ℕ
+cells_of l = items_of l

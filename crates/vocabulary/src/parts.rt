@@ -1,5 +1,7 @@
 //! What a vocabulary is made of.
-ghost use Rattle.std.specs.Prelude.{◌≤◌, length};
+ghost use Rattle.std.specs.Prelude.{◌≡◌, ◌≤◌};
+
+use short_list::ShortList;
 
 /// Where a name stands in the sheet.
 #[derive(Clone, Copy)]
@@ -9,22 +11,10 @@ pub struct Span {
 }
 
 /// Up to sixteen value names.
-#[derive(Clone, Copy)]
-pub struct Names {
-    pub spans: [Span; 16],
-    pub len: usize,
-    ghost few: { len ≤ 16 },
-    ghost held: { len ≤ length spans },
-}
+pub type Names = ShortList<Span, 16>;
 
 /// Up to seventeen cuts.
-#[derive(Clone, Copy)]
-pub struct Cuts {
-    pub numbers: [i32; 17],
-    pub len: usize,
-    ghost few: { len ≤ 17 },
-    ghost held: { len ≤ length numbers },
-}
+pub type Cuts = ShortList<i32, 17>;
 
 /// What an attribute is measured by: named values or rising cuts.
 #[derive(Clone, Copy)]
@@ -46,4 +36,24 @@ pub enum State {
     Opened(Span),
     Listing(Span, Names),
     Bounded(Span, Cuts),
+}
+
+impl Span {
+    /// No name.
+    pub(crate) const EMPTY: Span = Span { from: 0, len: 0 };
+}
+
+impl Kind {
+    ghost use Rattle.vocabulary.specs.Counted.{cells_in};
+
+    /// How many cells there are: each value is one, and cuts bound one less than there are.
+    pub(crate) fn cells(self) -> usize
+        ensures number_of_cells { result ≡ cells_in self }
+        ensures at_most_sixteen { result ≤ 16 }
+    {
+        match self {
+            Kind::Valued(names) => names.len(),
+            Kind::Ranged(cuts) => cuts.len().saturating_sub(1),
+        }
+    }
 }

@@ -1,12 +1,13 @@
 //! A vocabulary that has been read, its shape, and one cell an attribute.
-ghost use Rattle.std.specs.Prelude.{◌≡◌, ◌<◌, ◌≤◌, length, take};
+ghost use Rattle.std.specs.Prelude.{◌≡◌, ◌<◌, ◌≤◌};
+ghost use Rattle.short_list.specs.Items.{items_of};
 ghost use Rattle.vocabulary.specs.Grid.{grid, Narrow};
 ghost use Rattle.vocabulary.specs.Vocabulary.{Proper};
 ghost use Rattle.vocabulary.specs.Parts.{attributes_in};
 
 use crate::attributes::Attributes;
+use short_list::ShortList;
 
-pub mod cells;
 pub mod grid;
 pub mod lookup;
 pub mod reading;
@@ -22,15 +23,12 @@ pub struct Vocabulary<'a> {
 /// The cell counts of a vocabulary's attributes, in order, and their product.
 #[derive(Clone, Copy)]
 pub struct Shape {
-    counts: [u8; 8],
-    len: usize,
+    counts: ShortList<u8, 8>,
     size: usize,
-    ghost few: { len ≤ 8 },
-    ghost held: { len ≤ length counts },
-    ghost sized: { size ≡ grid (take len counts) },
+    ghost sized: { size ≡ grid (items_of counts) },
     ghost not_empty: { 0 < size },
     ghost small: { size ≤ 4096 },
-    ghost narrow: { ∥ Narrow (take len counts) ∥₁ },
+    ghost narrow: { ∥ Narrow (items_of counts) ∥₁ },
 }
 
 /// What names a cell in a request.
@@ -43,10 +41,4 @@ pub enum Label<'a> {
 }
 
 /// Up to eight cells, one an attribute, in order.
-#[derive(Clone, Copy)]
-pub struct CellList {
-    cells: [u8; 8],
-    len: usize,
-    ghost few: { len ≤ 8 },
-    ghost held: { len ≤ length cells },
-}
+pub type CellList = ShortList<u8, 8>;

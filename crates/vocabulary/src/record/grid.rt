@@ -6,29 +6,22 @@ ghost use Rattle.vocabulary.specs.Vocabulary.{shape_of};
 ghost use Rattle.vocabulary.specs.Record.{attributes_of, counts_of, cells_of};
 
 use crate::record::{CellList, Shape, Vocabulary};
+use short_list::ShortList;
 
 impl Vocabulary<'_> {
     /// How many cells each attribute has.
     pub fn shape(&self) -> Shape
         ensures { counts_of result ≡ shape_of (attributes_of self.now) }
     {
-        let mut counts = [0u8; 8];
-        for i in 0..self.attributes.len {
-            counts[i] = self.attributes.items[i].kind.cells() as u8;
+        let mut counts = ShortList::new(0);
+        for attribute in self.attributes.items.as_slice() {
+            counts.push(attribute.kind.cells() as u8);
         }
         Shape {
             counts,
-            len: self.attributes.len,
             size: self.attributes.size,
         }
     }
-}
-
-/// Whether two runs of counts are the same.
-fn equal(a: &[u8], b: &[u8]) -> bool
-    ensures { Decides result (a.now ≡ b.now) }
-{
-    a == b
 }
 
 impl Shape {
@@ -37,7 +30,7 @@ impl Shape {
         ensures number_of_counts { result ≡ length (counts_of self.now) }
         ensures at_most_eight { result ≤ 8 }
     {
-        self.len
+        self.counts.len()
     }
 
     /// How many grid numbers there are.
@@ -53,26 +46,21 @@ impl Shape {
     pub fn counts(&self) -> &[u8]
         ensures { result.now ≡ counts_of self.now }
     {
-        &self.counts[0..self.len]
+        self.counts.as_slice()
     }
 
     /// How many cells attribute `i` has.
     pub fn count(&self, i: usize) -> Option<u8>
         ensures { result ≡ count_if (counts_of self.now) i }
     {
-        let counts = self.counts();
-        if i < counts.len() {
-            Some(counts[i])
-        } else {
-            None
-        }
+        self.counts().get(i).copied()
     }
 
     /// Whether the other shape has the same counts.
     pub fn same(&self, other: &Shape) -> bool
         ensures { Decides result (counts_of self.now ≡ counts_of other.now) }
     {
-        equal(self.counts(), other.counts())
+        self.counts() == other.counts()
     }
 
     /// The grid number of cells, with the last attribute fastest; none where a cell is missing, too many or not below its count.
@@ -84,11 +72,11 @@ impl Shape {
             return None;
         }
         let mut number = 0;
-        for i in 0..counts.len() {
-            if cells[i] >= counts[i] {
+        for (i, count) in counts.iter().enumerate() {
+            if cells[i] >= *count {
                 return None;
             }
-            number = number * counts[i] as usize + cells[i] as usize;
+            number = number * usize::from(*count) + usize::from(cells[i]);
         }
         Some(number)
     }
@@ -100,18 +88,14 @@ impl Shape {
         if number >= self.size {
             return None;
         }
-        let counts = self.counts();
-        let mut cells = [0u8; 8];
+        let mut cells = ShortList::new(0);
         let mut size = self.size;
         let mut rest = number;
-        for i in 0..counts.len() {
-            size /= counts[i] as usize;
-            cells[i] = (rest / size) as u8;
+        for count in self.counts() {
+            size /= usize::from(*count);
+            cells.push((rest / size) as u8);
             rest %= size;
         }
-        Some(CellList {
-            cells,
-            len: self.len,
-        })
+        Some(cells)
     }
 }

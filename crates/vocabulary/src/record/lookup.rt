@@ -2,13 +2,14 @@
 ghost use Rattle.std.specs.Prelude.{◌≡◌, ℕ, ◌≤◌, List, [], length, pos, MatchOption, slice_index_or};
 ghost use Rattle.vocabulary.specs.Cells.{cell_of};
 ghost use Rattle.vocabulary.specs.Vocabulary.{place, names_of};
-ghost use Rattle.vocabulary.specs.Lookup.{no_attribute, attribute_at, value_cell, number_cell, cut_place, cut_of, label_of};
-ghost use Rattle.vocabulary.specs.Parts.{names_in, cuts_in, attribute_in, attributes_in};
+ghost use Rattle.std.specs.Option.{option_map};
+ghost use Rattle.vocabulary.specs.Lookup.{no_attribute, attribute_at, value_cell, cuts_if, number_cell, cut_place, cut_of, label_of};
+ghost use Rattle.vocabulary.specs.Parts.{cuts_in, attribute_in, attributes_in};
 ghost use Rattle.vocabulary.specs.Record.{attributes_of, label_shown};
 
 use crate::attributes::Attributes;
-use crate::names::name_at;
-use crate::parts::{Attribute, Cuts, Kind, Names};
+use crate::names::{find, name_at};
+use crate::parts::{Attribute, Cuts, Kind};
 use crate::record::{Label, Vocabulary};
 
 /// The cell of `x` among rising cuts: that of the last cut that is not above it.
@@ -27,34 +28,7 @@ fn cell(cuts: &[i32], x: i32) -> Option<usize>
 fn cut_place(cuts: &[i32], x: i32) -> Option<usize>
     ensures { result ≡ cut_place x cuts.now }
 {
-    for (i, cut) in cuts.iter().enumerate() {
-        if *cut == x {
-            return Some(i);
-        }
-    }
-    None
-}
-
-impl Names {
-    /// Name `c`, empty past the last one.
-    fn get<'a>(&self, sheet: &'a [u8], c: usize) -> &'a [u8]
-        ensures { result.now ≡ slice_index_or (names_in sheet.now self.now) c [] }
-    {
-        if c < self.len {
-            name_at(sheet, self.spans[c])
-        } else {
-            &[]
-        }
-    }
-}
-
-impl Cuts {
-    /// Cut `c`, 0 past the last one.
-    fn get(&self, c: usize) -> i32
-        ensures { result ≡ slice_index_or (cuts_in self.now) c (pos 0) }
-    {
-        if c < self.len { self.numbers[c] } else { 0 }
-    }
+    cuts.iter().position(|cut| *cut == x)
 }
 
 impl Attributes {
@@ -63,26 +37,22 @@ impl Attributes {
         ensures number_of_attributes { (bs : List ℕ) → result ≡ length (attributes_in bs self.now) }
         ensures at_most_eight { result ≤ 8 }
     {
-        self.len
+        self.items.len()
     }
 
     /// Attribute `i`.
     fn get(&self, i: usize) -> Option<Attribute>
         ensures { MatchOption result ((bs : List ℕ) → attribute_at (attributes_in bs self.now) i ≡ no_attribute) (λ a. (bs : List ℕ) → attribute_at (attributes_in bs self.now) i ≡ attribute_in bs a) }
     {
-        if i < self.len {
-            let attribute = &self.items[i];
-            Some(*attribute)
-        } else {
-            None
-        }
+        self.items.as_slice().get(i).copied()
     }
 }
 
 impl<'a> Vocabulary<'a> {
     /// How many attributes there are.
     pub fn len(&self) -> usize
-        ensures { (result ≡ length (attributes_of self.now)) × (result ≤ 8) }
+        ensures number_of_attributes { result ≡ length (attributes_of self.now) }
+        ensures at_most_eight { result ≤ 8 }
     {
         self.attributes.count()
     }
@@ -98,13 +68,22 @@ impl<'a> Vocabulary<'a> {
     pub fn value_cell(&self, i: usize, value: &[u8]) -> Option<u8>
         ensures { result ≡ value_cell (attribute_at (attributes_of self.now) i).kind value.now }
     {
-        let attribute = self.attributes.get(i)?;
-        match attribute.kind {
+        match self.attributes.get(i)?.kind {
             Kind::Valued(names) => {
-                let cell = names.find(self.sheet, value)?;
+                let cell = find(self.sheet, names.as_slice(), value)?;
                 Some(cell as u8)
             }
             Kind::Ranged(_) => None,
+        }
+    }
+
+    /// The cuts of attribute `i`, if it has cuts.
+    fn cuts(&self, i: usize) -> Option<Cuts>
+        ensures { option_map cuts_in result ≡ cuts_if (attribute_at (attributes_of self.now) i).kind }
+    {
+        match self.attributes.get(i)?.kind {
+            Kind::Valued(_) => None,
+            Kind::Ranged(cuts) => Some(cuts),
         }
     }
 
@@ -112,28 +91,18 @@ impl<'a> Vocabulary<'a> {
     pub fn number_cell(&self, i: usize, number: i32) -> Option<u8>
         ensures { result ≡ number_cell (attribute_at (attributes_of self.now) i).kind number }
     {
-        let attribute = self.attributes.get(i)?;
-        match attribute.kind {
-            Kind::Valued(_) => None,
-            Kind::Ranged(cuts) => {
-                let cell = cell(&cuts.numbers[0..cuts.len], number)?;
-                Some(cell as u8)
-            }
-        }
+        let cuts = self.cuts(i)?;
+        let cell = cell(cuts.as_slice(), number)?;
+        Some(cell as u8)
     }
 
     /// Which of the cuts of attribute `i` a number is.
     pub fn cut(&self, i: usize, number: i32) -> Option<u8>
         ensures { result ≡ cut_of (attribute_at (attributes_of self.now) i).kind number }
     {
-        let attribute = self.attributes.get(i)?;
-        match attribute.kind {
-            Kind::Valued(_names) => None,
-            Kind::Ranged(cuts) => {
-                let place = cut_place(&cuts.numbers[0..cuts.len], number)?;
-                Some(place as u8)
-            }
-        }
+        let bounds = self.cuts(i)?;
+        let place = cut_place(bounds.as_slice(), number)?;
+        Some(place as u8)
     }
 
     /// The name of attribute `i`, empty past the last one.
@@ -154,8 +123,11 @@ impl<'a> Vocabulary<'a> {
             return Label::Name(&[]);
         };
         match attribute.kind {
-            Kind::Valued(names) => Label::Name(names.get(self.sheet, c)),
-            Kind::Ranged(cuts) => Label::Number(cuts.get(c)),
+            Kind::Valued(names) => {
+                let name = names.as_slice().get(c);
+                Label::Name(name.map_or(&[], |span| name_at(self.sheet, *span)))
+            }
+            Kind::Ranged(cuts) => Label::Number(cuts.as_slice().get(c).copied().unwrap_or(0)),
         }
     }
 }

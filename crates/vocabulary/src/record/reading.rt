@@ -1,33 +1,27 @@
 //! Reading a whole vocabulary.
 ghost use Rattle.std.specs.Prelude.{◌≡◌, [], length};
+ghost use Rattle.short_list.specs.Items.{items_of};
 ghost use Rattle.refusal.specs.Answers.{answer_by};
 ghost use Rattle.vocabulary.specs.Vocabulary.{vocabulary_of, finish as finish_of};
-ghost use Rattle.vocabulary.specs.Parts.{attributes_in, progress, Room};
+ghost use Rattle.vocabulary.specs.Parts.{attributes_in, progress};
 ghost use Rattle.vocabulary.specs.Record.{attributes_of, ReadInPlace};
 
 use crate::attributes::{Attributes, Reader};
 use crate::parts::State;
 use crate::record::Vocabulary;
-use fields::raw::next_field;
+use fields::sheet::Fields;
 use refusal::{Cause, Refusal};
 
-/// The longest sheet, in bytes.
-pub const LONGEST_SHEET: usize = 65535;
-
 /// The attributes once the sheet has ended, after its last attribute has cells.
-fn finish(mut reader: Reader, sheet: &[u8]) -> Result<Attributes, Refusal>
-    requires { Room reader }
-    ensures { answer_by (attributes_in sheet.now) result ≡ finish_of (length sheet.now) (progress sheet.now reader) }
+fn finish(reader: &Reader) -> Result<Attributes, Refusal>
+    ensures { answer_by (attributes_in reader.now.sheet.now) result ≡ finish_of (length reader.now.sheet.now) (progress reader.now) }
 {
     match reader.state {
         State::Start | State::Opened(_) => Err(Refusal {
             cause: Cause::Truncated,
-            place: sheet.len(),
+            place: reader.sheet.len(),
         }),
-        State::Listing(_, _) | State::Bounded(_, _) => {
-            reader.close();
-            Ok(reader.whole)
-        }
+        State::Listing(_, _) | State::Bounded(_, _) => Ok(reader.closed()),
     }
 }
 
@@ -35,34 +29,29 @@ fn finish(mut reader: Reader, sheet: &[u8]) -> Result<Attributes, Refusal>
 fn attributes(sheet: &[u8]) -> Result<Attributes, Refusal>
     ensures { answer_by (attributes_in sheet.now) result ≡ vocabulary_of sheet.now }
 {
-    if sheet.len() > LONGEST_SHEET {
-        return Err(Refusal {
-            cause: Cause::SheetTooLong,
-            place: 0,
-        });
+    let fields = Fields::of_sheet(sheet)?;
+    let mut reader = Reader::new(sheet);
+    for raw in fields {
+        let raw = raw?;
+        reader.step(&raw)?;
     }
-    let mut reader = Reader::new();
-    let mut at = 0;
-    while at < sheet.len() {
-        let raw = next_field(sheet, at)?;
-        reader.step(sheet, &raw)?;
-        at = raw.next;
-    }
-    finish(reader, sheet)
+    finish(&reader)
 }
 
 impl<'a> Vocabulary<'a> {
     /// A sheet with no attributes; those given are none.
     fn unread(sheet: &'a [u8], attributes: Attributes) -> Vocabulary<'a>
-        requires { attributes.len ≡ 0 }
-        ensures { (result.sheet.now ≡ sheet.now) × (attributes_of result ≡ []) }
+        requires { items_of attributes.items ≡ [] }
+        ensures same_sheet { result.sheet.now ≡ sheet.now }
+        ensures no_attributes { attributes_of result ≡ [] }
     {
         Vocabulary { sheet, attributes }
     }
 
     /// The vocabulary of a sheet that is yet to be read: it has no attributes.
     pub fn new(sheet: &'a [u8]) -> Vocabulary<'a>
-        ensures { (result.sheet.now ≡ sheet.now) × (attributes_of result ≡ []) }
+        ensures same_sheet { result.sheet.now ≡ sheet.now }
+        ensures no_attributes { attributes_of result ≡ [] }
     {
         Vocabulary::unread(sheet, Attributes::none())
     }

@@ -1,26 +1,11 @@
-use Rattle.std.proofs.Common.{◌-◌, sym, ◌∙◌, arith, w32, SFits, rules}
-use Rattle.std.proofs.lemmas.Int.{to_z-of_z}
-use Rattle.fields.specs.Words.{numbers_of}
-use Rattle.fields.proofs.Numbering.{length_numbers}
-use Rattle.fields.proofs.Bytes.{rises-at, falls_at, rises_all}
+use Rattle.std.proofs.Common.{map, sym, ap, ◌∙◌, rules}
+use lib.Signed.{lt_z}
+use Rattle.std.proofs.lemmas.List.Sorted.{answers_always}
+use Rattle.fields.specs.Words.{number_of, rises}
+use Rattle.fields.proofs.Bytes.{numbers_of_chunks, rises_by_chunks}
 use Rattle.fields.proofs.words.is_rising.Goals as goal
-
-pub returns-then-not-above : goal.returns-then-not-above
-returns-then-not-above c =
-    let f : SFits w32 c.number_at.result = search rules in
-    let g : SFits w32 c.number_at-in-loop-i.result = search rules in
-    let n = length_numbers c.args.s.now in
-    sym (c.loop-i.invariant ∙ falls_at _ _ _ _ c.loop-i.auto.i (omega arith) c.number_at.ensures c.number_at-in-loop-i.ensures (simp to_z-of_z at c.if-not-above.true))
-
-pub loop-i-preserved : goal.loop-i-preserved
-loop-i-preserved c =
-    let f : SFits w32 c.number_at.result = search rules in
-    let g : SFits w32 c.number_at-in-loop-i.result = search rules in
-    let n = length_numbers c.args.s.now in
-    c.loop-i.invariant ∙ rises-at _ _ _ _ c.loop-i.auto.i (omega arith) c.number_at.ensures c.number_at-in-loop-i.ensures (simp to_z-of_z at c.if-not-above.false)
 
 pub returns : goal.returns
 returns c =
-    let zs = numbers_of c.args.s.now in
-    let n = length_numbers c.args.s.now in
-    sym (c.loop-i.invariant ∙ rises_all zs (c.loop-i.i - 1) (omega arith))
+    rises_by_chunks c.as_chunks.result.0.now c.is_sorted_by.result (c.is_sorted_by.ensures.cases (λ x y. lt_z (number_of x) (number_of y)) (answers_always _ _ _ (λ f a r g h. search rules)))
+    ∙ ap rises (ap (map number_of) c.as_chunks.ensures.front ∙ sym (numbers_of_chunks c.args.s.now))

@@ -1,13 +1,12 @@
-use Rattle.std.proofs.Common.{◌≡◌, [], ◌∷◌, ◌++◌, map, vec_items, sym, ap, ◌∙◌}
+use Rattle.std.proofs.Common.{◌≡◌, [], ◌∷◌, ◌++◌, map, vec_items, sym, ap, ◌∙◌, subst}
 use Rattle.std.proofs.lemmas.List.{map-append}
 use Rattle.std.proofs.lemmas.Result.{err_from_is_err_and}
 use Rattle.fields.specs.Shown.{bare}
 use Rattle.vocabulary.specs.Vocabulary.{vocabulary_of}
 use Rattle.vocabulary.specs.Record.{attributes_of}
-use Rattle.location.specs.Located.{placed}
 use Rattle.location.specs.Shown.{place_shown}
 use Rattle.location.proofs.Locating.{place_next, place_refused, place_found, served_is_located}
-use Rattle.location.proofs.Serving.{served_from, first_refused, vocabulary_refused, vocabulary_read, field_truncated, field_refused, field_served, input_ended, refusal_handed_on}
+use Rattle.location.proofs.Serving.{ServedSoFar, served_to, first_refused, vocabulary_refused, vocabulary_read, field_truncated, field_refused, field_served, input_ended, refusal_handed_on}
 use Rattle.location.proofs.finding.locate.Goals as goal
 
 pub returns-in_err-first : goal.returns-in_err-first
@@ -21,51 +20,43 @@ returns-in_err-read c =
     let p = err_from_is_err_and c.from_residual-in_err-read.result c.from_residual-in_err-read.ensures.1 in
     refusal_handed_on _ _ _ _ p.1 _ p.2
     (vocabulary_refused [] place_next (λ v ps. ps) c.args.input.now (bare first) first.next c.in_ok-first.ensures.field_is_the_first _
-    (ap vocabulary_of (sym c.new-vocabulary.ensures.0) ∙ c.in_err-read.ensures.1)
+    (ap vocabulary_of (sym c.new-vocabulary.ensures.same_sheet) ∙ c.in_err-read.ensures.1)
     ∙ served_is_located c.args.input.now)
 
-pub loop-at-init : goal.loop-at-init
-loop-at-init c =
+pub loop-raw-init : goal.loop-raw-init
+loop-raw-init c =
     let bs = c.args.input.now in
     let first = c.in_ok-first.first in
-    let told = c.in_ok-first.ensures in
-    let v = attributes_of c.read.new.self in (
-      told.field_ends_within.within,
-      vocabulary_read [] place_next (λ v ps. ps) bs (bare first) first.next told.field_is_the_first v (ap vocabulary_of (sym c.new-vocabulary.ensures.0) ∙ c.in_ok-read.ensures.1)
-          ∙ ap (λ ps. served_from [] place_next (λ v ps. ps) bs (v, first.next) ps) (ap (map place_shown) (sym c.new-locations.ensures.items)),
-    )
+    let v = attributes_of c.read.new.self in
+    let opened = vocabulary_read [] place_next (λ v ps. ps) bs (bare first) first.next c.in_ok-first.ensures.field_is_the_first v (ap vocabulary_of (sym c.new-vocabulary.ensures.same_sheet) ∙ c.in_ok-read.ensures.1) in
+    served_to [] place_next (λ v ps. ps) bs v first.next _ _ [] _ opened c.from_place-raw-items.ensures c.into_iter-raw-iterator.ensures.into_iter_gives (ap (map place_shown) c.new-locations.ensures.items)
 
 pub returns-in_err-raw : goal.returns-in_err-raw
 returns-in_err-raw c =
     let p = err_from_is_err_and c.from_residual-in_err-raw.result c.from_residual-in_err-raw.ensures.1 in
     refusal_handed_on _ _ _ _ p.1 _ p.2
-    (field_truncated [] place_next (λ v ps. ps) c.args.input.now _ _ _ c.loop-at.invariant.1 c.loop-at-test.true _ c.in_err-raw.ensures.field_is_the_one_at_the_place
-    ∙ served_is_located c.args.input.now)
+    (field_truncated [] place_next (λ v ps. ps) c.args.input.now _ _ _ c.loop-raw.invariant c.in-Some.raw _ c.next.new.self c.in-Some.ensures.steps c.in_err-raw.was ∙ served_is_located c.args.input.now)
 
 pub returns-in_err-find : goal.returns-in_err-find
 returns-in_err-find c =
     let p = err_from_is_err_and c.from_residual-in_err-find.result c.from_residual-in_err-find.ensures.1 in
     let raw = c.in_ok-raw.raw in
-    let told = c.in_ok-raw.ensures in
     let v = attributes_of c.read.new.self in
     refusal_handed_on _ _ _ _ p.1 _ p.2
-    (field_refused [] place_next (λ v ps. ps) c.args.input.now v _ _ c.loop-at.invariant.1 c.loop-at-test.true (bare raw) raw.next told.field_is_the_one_at_the_place _
-    (place_refused _ v _ (bare raw) _ (c.in_err-find.ensures ∙ ap (λ a. placed a v (bare raw)) told.field_ends_within.place_is))
+    (field_refused [] place_next (λ v ps. ps) c.args.input.now v _ _ c.loop-raw.invariant c.in-Some.raw raw c.next.new.self c.in-Some.ensures.steps c.in_ok-raw.was _
+    (place_refused raw.at v _ (bare raw) _ c.in_err-find.ensures)
     ∙ served_is_located c.args.input.now)
 
-pub loop-at-preserved : goal.loop-at-preserved
-loop-at-preserved c =
+pub loop-raw-preserved : goal.loop-raw-preserved
+loop-raw-preserved c =
     let bs = c.args.input.now in
     let raw = c.in_ok-raw.raw in
-    let told = c.in_ok-raw.ensures in
     let v = attributes_of c.read.new.self in
     let l = c.in_ok-find.field-0 in
-    let pushed : vec_items c.push.new.self ≡ vec_items c.loop-at.locations ++ l ∷ [] = c.in_ok-push.ensures.items in (
-      told.field_ends_within.within,
-      field_served [] place_next (λ v ps. ps) bs v _ _ c.loop-at.invariant.1 c.loop-at-test.true (bare raw) raw.next told.field_is_the_one_at_the_place _
-          (place_found _ v (map place_shown (vec_items c.loop-at.locations)) (bare raw) (place_shown l) (c.in_ok-find.ensures ∙ ap (λ a. placed a v (bare raw)) told.field_ends_within.place_is))
-          ∙ ap (λ ps. served_from [] place_next (λ v ps. ps) bs (v, raw.next) ps) (sym (ap (map place_shown) pushed ∙ map-append place_shown (vec_items c.loop-at.locations) (l ∷ []))),
-    )
+    let pushed : vec_items c.push.new.self ≡ vec_items c.loop-raw.locations ++ l ∷ [] = c.in_ok-push.ensures.items in
+    subst (ServedSoFar [] place_next (λ v ps. ps) bs v c.next.new.self) (sym (ap (map place_shown) pushed ∙ map-append place_shown (vec_items c.loop-raw.locations) (l ∷ [])))
+    (field_served [] place_next (λ v ps. ps) bs v _ _ c.loop-raw.invariant c.in-Some.raw raw c.next.new.self c.in-Some.ensures.steps c.in_ok-raw.was _
+    (place_found raw.at v (map place_shown (vec_items c.loop-raw.locations)) (bare raw) (place_shown l) c.in_ok-find.ensures))
 
 pub returns : goal.returns
-returns c = input_ended [] place_next (λ v ps. ps) c.args.input.now _ _ _ c.loop-at.invariant.1 c.loop-at-test.false ∙ served_is_located c.args.input.now
+returns c = input_ended [] place_next (λ v ps. ps) c.args.input.now _ _ _ c.loop-raw.invariant c.in-None.ensures.steps.1 ∙ served_is_located c.args.input.now

@@ -1,42 +1,32 @@
-use Rattle.std.proofs.Common.{◌≡◌, ℕ, ◌<◌, length, take, Some, None, ap, ◌∙◌, subst, mod-lt, arith, length-set, rules}
-use Rattle.std.proofs.lemmas.Bool.{cond_below}
+use Rattle.std.proofs.Common.{◌≡◌, ℕ, ◌+◌, ◌/◌, ◌%◌, ◌<◌, ◌++◌, length, get_or, drop, sym, ap, ◌∙◌, subst, mod-lt, arith, length-append}
+use Rattle.vocabulary.specs.Grid.{cells_at}
 use Rattle.vocabulary.specs.Record.{counts_of}
-use Rattle.vocabulary.specs.Grid.{grid, cells_at}
-use Rattle.vocabulary.proofs.Walked.{how_many_counts, count_positive, size_more, size_positive, cell_below, cells_more, cells_end}
+use Rattle.vocabulary.proofs.Walked.{counts_are_narrow, size_more, size_positive, cell_below, cells_more}
 use Rattle.vocabulary.proofs.record.Shape.cells.Goals as goal
 
-pub nonzero_div-size : goal.nonzero_div-size
-nonzero_div-size c = count_positive _ _ _ _ c.loop-i-test.true c.loop-i.invariant.1 c.loop-i.invariant.2
+pub overflow_cast-rest : goal.overflow_cast-rest
+overflow_cast-rest c =
+    let ns = counts_of c.args.self.now in
+    let i = c.loop-count.count-index in
+    let inside : i < length ns = subst (λ x. i < length x) c.counts-count-items.ensures c.loop-count-test.true in
+    let is : c.from-size.result ≡ get_or ns i 0 = c.from-size.ensures ∙ ap (λ x. get_or x i 0) c.counts-count-items.ensures in
+    let below = cell_below ns i c.loop-count.rest c.loop-count.size c.from-size.result inside is c.loop-count.invariant.grid_of_the_rest c.loop-count.invariant.rest_within in
+    let narrow = counts_are_narrow c.args.self.now i in
+    record { fits = omega arith }
 
-pub nonzero_div-cells : goal.nonzero_div-cells
-nonzero_div-cells c = size_positive _ _ _ _ c.loop-i-test.true c.loop-i.invariant.1 c.loop-i.invariant.2
-
-pub overflow_cast-cells : goal.overflow_cast-cells
-overflow_cast-cells c =
-    let below = cell_below _ _ _ _ c.loop-i-test.true c.loop-i.invariant.1 c.loop-i.invariant.2 in
-    omega (arith, c.type_inv.counts c.loop-i.i)
-
-pub nonzero_rem-rest : goal.nonzero_rem-rest
-nonzero_rem-rest c = size_positive _ _ _ _ c.loop-i-test.true c.loop-i.invariant.1 c.loop-i.invariant.2
-
-pub loop-i-preserved : goal.loop-i-preserved
-loop-i-preserved c =
-    let few : c.loop-i.i < length c.loop-i.cells = search rules in (
-      c.loop-i.invariant.0,
-      size_more _ _ _ _ c.loop-i-test.true c.loop-i.invariant.1 c.loop-i.invariant.2,
-      mod-lt _ (size_positive _ _ _ _ c.loop-i-test.true c.loop-i.invariant.1 c.loop-i.invariant.2),
-      cells_more _ _ _ _ c.loop-i-test.true c.loop-i.invariant.1 c.loop-i.invariant.2 _ _ few c.loop-i.invariant.3,
-      length-set _ _ _ ∙ c.loop-i.invariant.4,
-    )
-
-pub returns : goal.returns
-returns c =
-    let self = c.args.self.now in
-    let ns = c.counts-counts.result.now in
-    let long : length ns ≡ self.len = ap length c.counts-counts.ensures ∙ how_many_counts self in
-    let end : self.len ≡ c.loop-i.i = omega arith in
-    let below : c.args.number < grid (counts_of self) = subst (λ x. c.args.number < grid x) c.counts-counts.ensures c.loop-i.invariant.0 in
-    ap Some
-    (ap (λ (n : ℕ). take n c.loop-i.cells) end ∙ cells_end ns c.loop-i.i _ _ _ c.loop-i-test.false c.loop-i.invariant.3
-    ∙ ap (λ x. cells_at x c.args.number) c.counts-counts.ensures)
-    ∙ cond_below c.args.number (grid (counts_of self)) (Some (cells_at (counts_of self) c.args.number)) None below
+pub loop-count-preserved : goal.loop-count-preserved
+loop-count-preserved c =
+    let ns = counts_of c.args.self.now in
+    let i = c.loop-count.count-index in
+    let inside : i < length ns = subst (λ x. i < length x) c.counts-count-items.ensures c.loop-count-test.true in
+    let is : c.from-size.result ≡ get_or ns i 0 = c.from-size.ensures ∙ ap (λ x. get_or x i 0) c.counts-count-items.ensures in
+    let grids = c.loop-count.invariant.grid_of_the_rest in
+    let within = c.loop-count.invariant.rest_within in
+    record {
+      in_the_grid = c.loop-count.invariant.in_the_grid;
+      grid_of_the_rest = size_more ns i c.loop-count.rest c.loop-count.size c.from-size.result inside is grids within;
+      rest_within = mod-lt _ (size_positive ns i c.loop-count.rest c.loop-count.size c.from-size.result inside is grids within);
+      cells_so_far = cells_more ns i c.loop-count.rest c.loop-count.size c.from-size.result inside is grids within _ _ c.loop-count.invariant.cells_so_far
+          ∙ ap (λ x. x ++ cells_at (drop (i + 1) ns) (c.loop-count.rest % (c.loop-count.size / c.from-size.result))) (sym c.push.ensures);
+      as_many_cells = ap length c.push.ensures ∙ length-append _ _ ∙ ap (λ (n : ℕ). n + 1) c.loop-count.invariant.as_many_cells;
+    }

@@ -1,11 +1,14 @@
-use Rattle.std.proofs.Common.{◌≡◌, ◌<◌, ◌++◌, length, take, drop}
+use Rattle.std.proofs.Common.{◌≡◌, ◌<◌, ◌++◌, length, drop}
+use Rattle.short_list.specs.Items.{items_of}
 use Rattle.vocabulary.specs.Grid.{grid, cells_at}
+use Rattle.vocabulary.specs.Record.{counts_of}
 use Rattle.vocabulary.proofs.record.Shape.cells.Given as goal
 
-abbrev pub invariant-loop-i : goal.invariant-loop-i
-invariant-loop-i l =
-    (l.number < grid l.counts)
-    × (l.size ≡ grid (drop l.i l.counts))
-    × (l.rest < l.size)
-    × (cells_at l.counts l.number ≡ take l.i l.cells ++ cells_at (drop l.i l.counts) l.rest)
-    × (length l.cells ≡ 8)
+abbrev pub invariant-loop-count : goal.invariant-loop-count
+invariant-loop-count l = record {
+  in_the_grid : l.number < grid (counts_of l.self);
+  grid_of_the_rest : l.size ≡ grid (drop l.count-index (counts_of l.self));
+  rest_within : l.rest < l.size;
+  cells_so_far : cells_at (counts_of l.self) l.number ≡ items_of l.cells ++ cells_at (drop l.count-index (counts_of l.self)) l.rest;
+  as_many_cells : length (items_of l.cells) ≡ l.count-index;
+}

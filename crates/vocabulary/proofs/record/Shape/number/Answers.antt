@@ -1,6 +1,6 @@
 use Rattle.std.proofs.Common.{◌≡◌, ℕ, List, Option, sym, ap, ◌∙◌, arith}
 use Rattle.vocabulary.specs.Grid.{number_if}
-use Rattle.vocabulary.proofs.Walked.{number_from, number_if_lem, number-none, number_more, number_stops, number_ends, rest_positive, number-within, number_small}
+use Rattle.vocabulary.proofs.Walked.{number_from, number_if_lem, number-none, number_stops, number_ends}
 use Rattle.vocabulary.proofs.record.Shape.number.Goals as goal
 
 -- what the walk comes to is the answer for the shape that has these counts
@@ -11,25 +11,7 @@ pub returns-then-cells-counts : goal.returns-then-cells-counts
 returns-then-cells-counts c = answer _ _ _ _ c.counts-counts.ensures (number-none 0 _ _ c.if-cells-counts.true)
 
 pub returns-then-cells-i : goal.returns-then-cells-i
-returns-then-cells-i c =
-    answer _ _ _ _ c.counts-counts.ensures (c.loop-i.invariant.0 ∙ number_stops _ _ _ _ c.loop-i-test.true (omega arith) c.if-cells-i.true)
-
-pub overflow_mul-number : goal.overflow_mul-number
-overflow_mul-number c =
-    let small = number_small _ _ c.loop-i-test.true _ _ c.if-cells-i.false c.loop-i.invariant.1 c.loop-i.invariant.2 in
-    omega arith
-
-pub overflow_add-number : goal.overflow_add-number
-overflow_add-number c =
-    let small = number_small _ _ c.loop-i-test.true _ _ c.if-cells-i.false c.loop-i.invariant.1 c.loop-i.invariant.2 in
-    omega arith
-
-pub loop-i-preserved : goal.loop-i-preserved
-loop-i-preserved c = (
-  c.loop-i.invariant.0 ∙ number_more _ _ _ _ c.loop-i-test.true (omega arith) c.if-cells-i.false,
-  rest_positive _ _ c.loop-i-test.true 0 c.loop-i.invariant.1,
-  number-within _ _ c.loop-i-test.true _ _ c.if-cells-i.false c.loop-i.invariant.2,
-)
+returns-then-cells-i c = answer _ _ _ _ c.counts-counts.ensures (c.loop-i.invariant.0 ∙ number_stops _ _ _ _ c.loop-i-test.true (omega arith) c.if-cells-i.true)
 
 pub returns : goal.returns
 returns c = answer _ _ _ _ c.counts-counts.ensures (c.loop-i.invariant.0 ∙ number_ends _ _ _ _ c.loop-i-test.false (omega arith))

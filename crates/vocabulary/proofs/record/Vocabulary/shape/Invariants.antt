@@ -1,9 +1,7 @@
-use Rattle.std.proofs.Common.{◌≡◌, ◌≤◌, length, take}
+use Rattle.std.proofs.Common.{◌≡◌, take}
+use Rattle.short_list.specs.Items.{items_of}
 use Rattle.vocabulary.specs.Counted.{counts_in}
 use Rattle.vocabulary.proofs.record.Vocabulary.shape.Given as goal
 
-abbrev pub invariant-loop-i : goal.invariant-loop-i
-invariant-loop-i l =
-    (l.i ≤ l.self.attributes.len)
-    × (take l.i l.counts ≡ counts_in (take l.i l.self.attributes.items))
-    × (length l.counts ≡ 8)
+abbrev pub invariant-loop-attribute : goal.invariant-loop-attribute
+invariant-loop-attribute l = items_of l.counts ≡ counts_in (take l.attribute-index (items_of l.self.attributes.items))

@@ -1,13 +1,12 @@
-use Rattle.std.proofs.Common.{◌≡◌, ◌-◌, ◌≤◌, length, drop}
+use Rattle.std.proofs.Common.{◌≡◌}
 use Rattle.fields.specs.Fields.{reading}
+use Rattle.fields.proofs.Walking.{ReadSoFar}
 use Rattle.vocabulary.specs.Vocabulary.{start, step}
-use Rattle.vocabulary.specs.Parts.{progress, Room}
+use Rattle.vocabulary.specs.Parts.{progress}
 use Rattle.vocabulary.proofs.record.reading.attributes.Given as goal
 
-abbrev pub invariant-loop-at : goal.invariant-loop-at
-invariant-loop-at l =
-    (l.at ≤ length l.sheet) × Room l.reader
-    × (reading step 0 start 0 l.sheet ≡ reading step l.at (progress l.sheet l.reader) 0 (drop l.at l.sheet))
-
-abbrev pub decreases-loop-at : goal.decreases-loop-at
-decreases-loop-at l = length l.sheet - l.at
+abbrev pub invariant-loop-raw : goal.invariant-loop-raw
+invariant-loop-raw l = record {
+  same_sheet : l.reader.sheet.now ≡ l.sheet;
+  read_so_far : ReadSoFar step (reading step 0 start 0 l.sheet) l.sheet l.raw-iterator (progress l.reader);
+}
