@@ -2,8 +2,8 @@ pub mod Codes
 pub mod Combined
 pub mod Consulting
 pub mod Counted
+pub mod Decided
 pub mod Lawfully
 pub mod Matched
 pub mod Seeing
-pub mod Turning
 pub mod Walked

@@ -1,5 +1,5 @@
 -- What a walk knows of the cells.
-use Rattle.std.proofs.Common.{◌≡◌, ℕ, zero, suc, ◌+◌, ◌-◌, ◌<◌, ◌≤◌, Bool, true, false, not, ◌&&◌, ◌||◌, eqb, ltb, leb, List, [], ◌∷◌, length, get_or, take, set, Some, None, Ok, Err, Option, Result, IfOk, sym, refl, ap, ◌∙◌, arith, ltb-true}
+use Rattle.std.proofs.Common.{◌≡◌, ℕ, zero, suc, ◌+◌, ◌-◌, ◌<◌, ◌≤◌, Bool, true, false, not, ◌&&◌, ◌||◌, eqb, ltb, leb, List, [], ◌∷◌, length, Some, None, Ok, Err, Option, Result, IfOk, sym, refl, ap, ◌∙◌, arith, ltb-true}
 use Rattle.std.specs.Bool.{then_some}
 use Rattle.std.specs.List.{list_all}
 use Rattle.std.specs.Option.{ok_or}
@@ -9,8 +9,8 @@ use Rattle.vocabulary.specs.Vocabulary.{Attribute, names_of, place}
 use Rattle.vocabulary.proofs.Known.{attribute_below}
 use Rattle.policy.specs.Rules.{is_among}
 use Rattle.policy.specs.Sheets.{cells_from, between}
-use Rattle.policy.specs.Walking.{Seen, all_met, was_met}
-use Rattle.policy.specs.Walks.{among, missed, meets}
+use Rattle.policy.specs.Walking.{Seen, all_met}
+use Rattle.policy.specs.Walks.{among, missed}
 
 -- ---- attributes that are named
 -- all are met where none is missed
@@ -19,15 +19,6 @@ none_is_missed [] = refl
 none_is_missed (None ∷ xs) = none_is_missed xs
 none_is_missed (Some true ∷ xs) = none_is_missed xs
 none_is_missed (Some false ∷ xs) = refl
-
--- a write to the front of a list is a write to what stands in front, and past it there is nothing to write
-pub noted_in_front : (met : Seen) (n i : ℕ) (b : Bool) → take n (set met i (Some (was_met (get_or met i None) || b))) ≡ meets (take n met) i b
-noted_in_front [] zero i b = refl
-noted_in_front [] (suc n) i b = refl
-noted_in_front (o ∷ met) zero zero b = refl
-noted_in_front (o ∷ met) zero (suc i) b = refl
-noted_in_front (o ∷ met) (suc n) zero b = refl
-noted_in_front (o ∷ met) (suc n) (suc i) b = ap (λ s. o ∷ s) (noted_in_front met n i b)
 
 -- an attribute that is found by name is below any number that the attributes do not pass
 pub found_below : (v : List Attribute) (n : List ℕ) (m : ℕ) → length v ≤ m → (o : Option ℕ) {E : Type 0} (e : E) (r : Result ℕ E) → r ≡ ok_or o e → o ≡ place n (names_of v) → IfOk r (λ i. i < m)

@@ -1,23 +1,22 @@
 //! How far a walk through a policy sheet has come.
-ghost use Rattle.std.specs.Prelude.{◌≡◌, ◌≤◌, length};
+ghost use Rattle.std.specs.Prelude.{◌≡◌, length};
 ghost use Rattle.vocabulary.specs.Record.{attributes_of};
 
 use crate::tally::Tally;
+use fields::way::Way;
+use short_list::ShortList;
 use vocabulary::record::Vocabulary;
 
 /// For each attribute that the rule names: whether one of its conditions names the cell.
 #[derive(Clone, Copy)]
 pub(crate) struct Seen {
-    pub(crate) met: [Option<bool>; 8],
-    pub(crate) len: usize,
-    ghost few: { len ≤ 8 },
-    ghost held: { len ≤ length met },
+    pub(crate) met: ShortList<Option<bool>, 8>,
 }
 
 /// The rule that is being read, after those in the tally.
 #[derive(Clone, Copy)]
 pub(crate) struct Judging {
-    pub(crate) way: u8,
+    pub(crate) way: Way,
     pub(crate) tally: Tally,
     pub(crate) decision: u8,
     pub(crate) seen: Seen,
@@ -27,7 +26,7 @@ pub(crate) struct Judging {
 #[derive(Clone, Copy)]
 pub(crate) enum State {
     Begun,
-    Headed(u8),
+    Headed(Way),
     Ruled(Judging),
 }
 

@@ -1,26 +1,27 @@
 //! Walking through a policy sheet, for one list of cells.
-ghost use Rattle.std.specs.Prelude.{◌≡◌, ◌<◌, ◌≤◌, ◌&&◌, ◌||◌, length, replicate, None, Ok, IfOk, nat_le, nat_lt};
+ghost use Rattle.std.specs.Prelude.{◌≡◌, ◌<◌, ◌&&◌, ◌||◌, length, replicate, None, Ok, IfOk, nat_le, nat_lt};
 ghost use Rattle.refusal.specs.Answers.{answer_by, given};
-ghost use Rattle.fields.specs.Fields.{reading};
 ghost use Rattle.fields.specs.Parts.{itself};
-ghost use Rattle.fields.specs.Shown.{bare, said, PartsFit};
+ghost use Rattle.fields.specs.Shown.{bare, said};
+ghost use Rattle.fields.specs.Ways.{way_number};
 ghost use Rattle.vocabulary.specs.Vocabulary.{names_of, place};
 ghost use Rattle.vocabulary.specs.Lookup.{attribute_at};
 ghost use Rattle.vocabulary.specs.Record.{attributes_of};
 ghost use Rattle.policy.specs.Sheets.{between, choice_cells, range_cells, sheet_meaning};
-ghost use Rattle.policy.specs.Walking.{was_met, all_met, may_follow, closed as closed_by, open_rule as opened, enter as enter_of, step as step_of, finish as finish_of, begun};
+ghost use Rattle.policy.specs.Walking.{was_met, all_met, may_follow, closed as closed_by, open_rule as opened, enter as enter_of, step as step_of, finish as finish_of};
 ghost use Rattle.policy.specs.Tallies.{tally_of};
 ghost use Rattle.policy.specs.Walks.{seen_in, state_in, decided_by, checked_by, nothing, among, meets, missed, noting};
 
 use crate::tally::Tally;
 use crate::walk::{Judging, Seen, State, Walk};
 use algebra::Algebra;
-use fields::raw::next_field;
+use fields::sheet::Fields;
+use fields::way::Way;
 use fields::words::number;
 use fields::{Field, RawField};
 use refusal::{Cause, Refusal};
-use vocabulary::record::Vocabulary;
-use vocabulary::record::reading::LONGEST_SHEET;
+use short_list::ShortList;
+use vocabulary::record::{CellList, Vocabulary};
 
 /// The cell was named before, or is now.
 fn meets_now(before: Option<bool>, met: bool) -> bool
@@ -42,31 +43,31 @@ impl Seen {
         ensures { seen_in result ≡ replicate (length (attributes_of vocabulary.now)) None }
     {
         Seen {
-            met: [None; 8],
-            len: vocabulary.len(),
+            met: ShortList::repeat(None, vocabulary.len()),
         }
     }
 
-    /// A condition on attribute `i` names the cell, or it does not.
+    /// A condition on attribute `i` names the cell, or it does not; past the attributes nothing is noted.
     fn note(&mut self, i: usize, met: bool)
-        requires { i < 8 }
         ensures { seen_in self.new ≡ meets (seen_in self.old) i met }
     {
-        self.met[i] = Some(meets_now(self.met[i], met));
+        if let Some(before) = self.met.as_slice().get(i).copied() {
+            self.met.set(i, Some(meets_now(before, met)));
+        }
     }
 
     /// Every attribute that is named has its cell named.
     fn all_met(&self) -> bool
         ensures { result ≡ all_met (seen_in self.now) }
     {
-        self.met[..self.len].iter().all(|seen| !is_missed(*seen))
+        self.met.as_slice().iter().all(|seen| !is_missed(*seen))
     }
 }
 
 impl Judging {
     /// What the rules come to with the one that is being read.
     fn close<A: Algebra>(&self, algebra: &A) -> Tally
-        ensures { tally_of result ≡ closed_by (A.tables algebra.now) self.now.way (tally_of self.now.tally) self.now.decision (seen_in self.now.seen) }
+        ensures { tally_of result ≡ closed_by (A.tables algebra.now) (way_number self.now.way) (tally_of self.now.tally) self.now.decision (seen_in self.now.seen) }
     {
         let mut tally = self.tally;
         if self.seen.all_met() {
@@ -77,7 +78,6 @@ impl Judging {
 
     /// A further condition, on attribute `i`, which names the cell or does not.
     fn note(mut self, raw: &RawField, i: usize, met: Option<bool>) -> Result<State, Refusal>
-        requires { i < 8 }
         ensures { answer_by state_in result ≡ noting raw.now.at self i met }
     {
         let met = met.ok_or(raw.refused(Cause::ForeignValue))?;
@@ -132,7 +132,6 @@ impl<A: Algebra> Walk<'_, A> {
     fn attribute(&self, raw: &RawField, name: &[u8]) -> Result<usize, Refusal>
         ensures place_of_the_name { answer_by itself result ≡ given (place name.now (names_of (attributes_of self.now.vocabulary.now))) 23 raw.now.at (λ i. Ok i) }
         ensures has_a_cell { IfOk result (λ i. i < length self.now.cells.now) }
-        ensures one_of_eight { IfOk result (λ i. i < 8) }
     {
         self.vocabulary
             .find(name)
@@ -143,11 +142,11 @@ impl<A: Algebra> Walk<'_, A> {
     fn open_rule(
         &self,
         raw: &RawField,
-        way: u8,
+        way: Way,
         tally: Tally,
         decision: u8,
     ) -> Result<State, Refusal>
-        ensures { answer_by state_in result ≡ opened (length (attributes_of self.now.vocabulary.now)) (A.tables self.now.algebra.now).size raw.now.at way (tally_of tally) decision }
+        ensures { answer_by state_in result ≡ opened (length (attributes_of self.now.vocabulary.now)) (A.tables self.now.algebra.now).size raw.now.at (way_number way) (tally_of tally) decision }
     {
         if decision == 0 || decision >= self.algebra.size() {
             return Err(raw.refused(Cause::BadContent));
@@ -163,7 +162,6 @@ impl<A: Algebra> Walk<'_, A> {
 
     /// What a field says is entered.
     fn enter(&self, state: State, raw: &RawField, field: Field) -> Result<State, Refusal>
-        requires { PartsFit raw.now.content.now field }
         ensures { answer_by state_in result ≡ enter_of (A.tables self.now.algebra.now) (attributes_of self.now.vocabulary.now) self.now.cells.now raw.now.at (state_in state) (said field.entry) }
     {
         match (field, state) {
@@ -201,20 +199,6 @@ impl<A: Algebra> Walk<'_, A> {
         }
     }
 
-    /// How far the walk comes through all fields of a sheet.
-    fn through(&self, sheet: &[u8]) -> Result<State, Refusal>
-        ensures { answer_by state_in result ≡ reading (step_of (A.tables self.now.algebra.now) (attributes_of self.now.vocabulary.now) self.now.cells.now) 0 begun 0 sheet.now }
-    {
-        let mut state = State::Begun;
-        let mut at = 0;
-        while at < sheet.len() {
-            let raw = next_field(sheet, at)?;
-            state = self.step(state, &raw)?;
-            at = raw.next;
-        }
-        Ok(state)
-    }
-
     /// The decision once the sheet has ended.
     fn finish(&self, state: State, end: usize) -> Result<u8, Refusal>
         ensures { answer_by itself result ≡ finish_of (A.tables self.now.algebra.now) end (state_in state) }
@@ -233,13 +217,12 @@ impl<A: Algebra> Walk<'_, A> {
     fn decide(&self, sheet: &[u8]) -> Result<u8, Refusal>
         ensures { answer_by itself result ≡ decided_by (A.tables self.now.algebra.now) (attributes_of self.now.vocabulary.now) self.now.cells.now sheet.now }
     {
-        if sheet.len() > LONGEST_SHEET {
-            return Err(Refusal {
-                cause: Cause::SheetTooLong,
-                place: 0,
-            });
+        let fields = Fields::of_sheet(sheet)?;
+        let mut state = State::Begun;
+        for raw in fields {
+            let raw = raw?;
+            state = self.step(state, &raw)?;
         }
-        let state = self.through(sheet)?;
         self.finish(state, sheet.len())
     }
 }
@@ -269,11 +252,11 @@ pub fn decide_number<A: Algebra>(
 pub fn check<A: Algebra>(algebra: &A, vocabulary: &Vocabulary, sheet: &[u8]) -> Result<(), Refusal>
     ensures { answer_by nothing result ≡ checked_by (A.tables algebra.now).size (attributes_of vocabulary.now) sheet.now }
 {
-    let anywhere = [0u8; 8];
+    let anywhere: CellList = ShortList::repeat(0, vocabulary.len());
     let walk = Walk {
         algebra,
         vocabulary,
-        cells: &anywhere[..vocabulary.len()],
+        cells: anywhere.as_slice(),
     };
     walk.decide(sheet)?;
     Ok(())
