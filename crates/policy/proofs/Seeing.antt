@@ -1,16 +1,19 @@
 -- What a walk knows of the cells.
-use Rattle.std.proofs.Common.{◌≡◌, ℕ, zero, suc, ◌+◌, ◌-◌, ◌<◌, ◌≤◌, Bool, true, false, not, ◌&&◌, ◌||◌, eqb, ltb, leb, List, [], ◌∷◌, length, Some, None, Ok, Err, Option, Result, IfOk, sym, refl, ap, ◌∙◌, arith, ltb-true}
+use Rattle.std.proofs.Common.{◌≡◌, ℕ, zero, suc, ◌+◌, ◌-◌, ◌<◌, ◌≤◌, Bool, true, false, not, ◌&&◌, ◌||◌, eqb, ltb, leb, List, [], ◌∷◌, length, get_or, Some, None, Ok, Err, Option, Result, IfOk, sym, refl, ap, ◌∙◌, arith, ltb-true}
 use Rattle.std.specs.Bool.{then_some}
 use Rattle.std.specs.List.{list_all}
 use Rattle.std.specs.Option.{ok_or}
 use Rattle.std.proofs.lemmas.Bool.Decides.{nat_tests}
+use Rattle.refusal.specs.Answers.{Answer, given}
 use Rattle.fields.specs.Fields.{when}
-use Rattle.vocabulary.specs.Vocabulary.{Attribute, names_of, place}
+use Rattle.fields.proofs.Answering.{same_value, given_value}
+use Rattle.vocabulary.specs.Vocabulary.{Kind, Attribute, names_of, place}
+use Rattle.vocabulary.specs.Lookup.{attribute_at}
 use Rattle.vocabulary.proofs.Known.{attribute_below}
 use Rattle.policy.specs.Rules.{is_among}
 use Rattle.policy.specs.Sheets.{cells_from, between}
-use Rattle.policy.specs.Walking.{Seen, all_met}
-use Rattle.policy.specs.Walks.{among, missed}
+use Rattle.policy.specs.Walking.{Tally, Seen, all_met, Walked, judging, noted, enter_condition}
+use Rattle.policy.specs.Walks.{among, missed, meets}
 
 -- ---- attributes that are named
 -- all are met where none is missed
@@ -44,3 +47,20 @@ among_range c i j b e = go (ltb i j) (ltb-true i j)
     go true f =
         let lt = f refl in
         ap Some (sym e ∙ sym (among-from c i (j - i) ∙ ap (λ (k : ℕ). leb i c && ltb c k) (omega arith)))
+
+-- ---- conditions
+-- a condition on an attribute that is known is noted by whether it names the cell
+pub condition_noted : (v : List Attribute) (cells : List ℕ) (at w : ℕ) (y : Tally) (d : ℕ) (seen : Seen) (a : List ℕ) (named : Kind → Option (List ℕ)) (i : ℕ)
+    → Ok i ≡ given (place a (names_of v)) 23 at (λ i. Ok i)
+    → given (among (get_or cells i 0) (named (attribute_at v i).kind)) 24 at (λ b. Ok (judging w y d (meets seen i b))) ≡ enter_condition v cells at (judging w y d seen) a named
+condition_noted v cells at w y d seen a named i e =
+    let x = given_value (place a (names_of v)) 23 at (λ i. Ok i) i (sym e) in
+    let there = x.1 ∙ ap Some (same_value x.0 i x.2) in
+    by_cells (named (attribute_at v i).kind) ∙ sym (ap (λ o. given o 23 at noting_at) there)
+  where
+    noting_at : ℕ → Answer Walked
+    noting_at j = given (named (attribute_at v j).kind) 24 at (λ cs. Ok (judging w y d (noted cells seen j cs)))
+
+    by_cells : (o : Option (List ℕ)) → given (among (get_or cells i 0) o) 24 at (λ b. Ok (judging w y d (meets seen i b))) ≡ given o 24 at (λ cs. Ok (judging w y d (noted cells seen i cs)))
+    by_cells None = refl
+    by_cells (Some cs) = refl
