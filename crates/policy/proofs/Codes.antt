@@ -1,27 +1,17 @@
 -- Codes of a grid list: which pass, and what they mean.
-use Rattle.std.proofs.Common.{◌≡◌, ℕ, zero, suc, ◌+◌, ◌<◌, ◌≤◌, true, false, cond, ltb, List, [], ◌∷◌, length, get_or, take, replicate, Ok, sym, refl, ap, ◌∙◌, subst, ⊎_elim, add-zero, arith, ltb-true, le-ltb, lt-ltb, eq-eqb}
-use mathlib.Core.Logic.{∥∥₁_elim}
-use native.Mathlib.Bridge.{le_prop}
+use Rattle.std.proofs.Common.{◌≡◌, ℕ, zero, suc, ◌+◌, ◌-◌, ◌<◌, ◌≤◌, Bool, true, false, cond, ltb, leb, List, [], ◌∷◌, ◌++◌, length, get_or, take, drop, replicate, Some, None, Ok, zero-add, sym, refl, ap, ◌∙◌, subst, ⊎_elim, add-zero, arith, ltb-true, leb-true, le-ltb, lt-ltb, eq-eqb}
 use lib.ListN.{get_or-replicate, length-replicate}
-use Rattle.std.proofs.lemmas.List.{get_or_past}
-use Rattle.std.proofs.lemmas.Bool.{cases_Bool, cases_lt, cond-true, cond-false}
+use Rattle.std.specs.List.{position, position_or_len}
+use Rattle.std.proofs.Math.Seq.{get_or-append_right}
+use Rattle.std.proofs.lemmas.List.Sums.{fails_before_first, passes_at_first}
+use Rattle.std.proofs.lemmas.Bool.Decides.{nat_tests}
+use Rattle.std.proofs.lemmas.List.{get_or_past, get_or_append_left, get_or-drop}
+use Rattle.std.proofs.lemmas.Bool.{cases_lt}
 use Rattle.refusal.specs.Answers.{refuse, and_then}
 use Rattle.fields.proofs.Answering.{not_both, and_then_value, either_way}
 use Rattle.vocabulary.specs.Grid.{grid}
 use Rattle.vocabulary.proofs.Filled.{front_is}
-use Rattle.policy.specs.Meaning.{Lawful}
 use Rattle.policy.specs.Lists.{checked_from, codes_of, codes_meaning, AllBelow}
-
--- a code or 0, which is below every size
-pub codes_lawful : (shape : List ℕ) (k : ℕ) (codes : List ℕ) → 0 < k → ∥ AllBelow k codes ∥₁ → Lawful (codes_meaning shape k codes)
-codes_lawful shape k codes some below = record {
-  decisions_below_the_size =
-      λ g.
-      ⊎_elim (λ (t : ltb g (grid shape) ≡ true). subst (λ (d : ℕ). d < k) (sym (cond-true (ltb g (grid shape)) (get_or codes g 0) 0 t)) (∥∥₁_elim below le_prop (λ b. b g)))
-      (λ (t : ltb g (grid shape) ≡ false). subst (λ (d : ℕ). d < k) (sym (cond-false (ltb g (grid shape)) (get_or codes g 0) 0 t)) some)
-      (cases_Bool (ltb g (grid shape)));
-  zero_beyond_the_grid = λ g h. cond-false (ltb g (grid shape)) (get_or codes g 0) 0 (le-ltb g (grid shape) h);
-}
 
 -- codes that are all below k pass
 pub all_pass : (k at : ℕ) (cs : List ℕ) → ((j : ℕ) → j < length cs → get_or cs j 0 < k) → Ok cs ≡ checked_from k at cs
@@ -39,6 +29,27 @@ first_refused k at (suc i) (c ∷ cs) within below not =
     let moved : at + suc i ≡ suc at + i = omega arith in
     simp (lt-ltb c k lt)
     (ap (λ n. refuse 13 n) moved ∙ ap (λ r. and_then r (λ ds. Ok (c ∷ ds))) (first_refused k (suc at) i cs (omega arith) (λ j h. below (suc j) (omega arith)) not))
+
+-- so the first code that is not below k is refused, and where there is none the list passes
+pub checked_by_position : (k : ℕ) (cs : List ℕ) → checked_from k 0 cs ≡ elim (position (λ c. leb k c) cs) [ None ↦ Ok cs | Some i ↦ refuse 13 i ]
+checked_by_position k cs = go (ltb (position_or_len (λ c. leb k c) cs) (length cs)) refl
+  where
+    below : (j : ℕ) → j < position_or_len (λ c. leb k c) cs → get_or cs j 0 < k
+    below j h = let e = fails_before_first (λ c. leb k c) cs j 0 h in grind (arith, nat_tests)
+
+    go : (b : Bool) → ltb (position_or_len (λ c. leb k c) cs) (length cs) ≡ b
+        → checked_from k 0 cs ≡ elim (cond b (Some (position_or_len (λ c. leb k c) cs)) None) [ None ↦ Ok cs | Some i ↦ refuse 13 i ]
+    go true e =
+        let i : ℕ = position_or_len (λ c. leb k c) cs in
+        let within : i < length cs = ltb-true _ _ e in
+        sym (ap (λ n. refuse 13 n) (sym (zero-add i)) ∙ first_refused k 0 i cs within below (leb-true k _ (passes_at_first (λ c. leb k c) cs 0 within)))
+    go false e = sym (all_pass k 0 cs (λ j h. below j (grind (arith, nat_tests))))
+
+pub refused_at_position : (k : ℕ) (cs : List ℕ) (i : ℕ) → Some i ≡ position (λ c. leb k c) cs → refuse 13 i ≡ checked_from k 0 cs
+refused_at_position k cs i e = ap (λ o. elim o [ None ↦ Ok cs | Some i ↦ refuse 13 i ]) e ∙ sym (checked_by_position k cs)
+
+pub passes_with_none : (k : ℕ) (cs : List ℕ) → None ≡ position (λ c. leb k c) cs → Ok cs ≡ checked_from k 0 cs
+passes_with_none k cs e = ap (λ o. elim o [ None ↦ Ok cs | Some i ↦ refuse 13 i ]) e ∙ sym (checked_by_position k cs)
 
 -- what passes is below k, since any other code is refused
 pub passed_below : (k at : ℕ) (cs ds : List ℕ) → checked_from k at cs ≡ Ok ds → (j : ℕ) → j < length cs → get_or cs j 0 < k
@@ -73,7 +84,18 @@ pub list_held : (shape : List ℕ) (k : ℕ) (codes list : List ℕ) → length 
 list_held shape k codes list long room held passed =
     simp (eq-eqb (length list) (grid shape) long) (ap (λ (cs : List ℕ). Ok cs) (front_is 0 codes list (grid shape) room long (λ j h. held j)) ∙ passed)
 
--- zeros are 0 everywhere, and so is what lies past them
-pub zeros : (n g : ℕ) → ◌≡◌ {A = ℕ} (get_or (replicate n 0) g 0) 0
-zeros n g =
-    ⊎_elim (λ (h : g < n). get_or-replicate n g 0 0 h) (λ (h : n ≤ g). get_or_past (replicate n 0) g 0 (simp length-replicate h)) (cases_lt g n)
+-- a list in front of zeros holds the list, for what lies past it is 0 in both
+pub held_in : (list : List ℕ) (m : ℕ) (codes : List ℕ) → codes ≡ list ++ drop (length list) (replicate m 0) → Holds codes list
+held_in list m codes e g =
+    let n : ℕ = length list in
+    ap (λ xs. get_or xs g 0) e
+    ∙ ⊎_elim (λ (h : g < length list). get_or_append_left list (drop n (replicate m 0)) 0 g h)
+    (λ (h : length list ≤ g). get_or-append_right list (drop n (replicate m 0)) g 0 h ∙ get_or-drop n (replicate m 0) (g - n) 0 ∙ zeros (n + (g - n)) ∙ sym (get_or_past list g 0 h))
+    (cases_lt g (length list))
+  where
+    zeros : (i : ℕ) → ◌≡◌ {A = ℕ} (get_or (replicate m 0) i 0) 0
+    zeros i = ⊎_elim (λ (h : i < m). get_or-replicate m i 0 0 h) (λ (h : m ≤ i). get_or_past (replicate m 0) i 0 (simp length-replicate h)) (cases_lt i m)
+
+-- a list of just the grid size whose first code beyond is refused is refused there
+pub refused_of_size : (shape : List ℕ) (k : ℕ) (list : List ℕ) (i : ℕ) → length list ≡ grid shape → Some i ≡ position (λ c. leb k c) list → refuse 13 i ≡ codes_of shape k list
+refused_of_size shape k list i long e = simp (eq-eqb (length list) (grid shape) long) (refused_at_position k list i e)

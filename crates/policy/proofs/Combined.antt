@@ -9,7 +9,7 @@ use Rattle.algebra.specs.Tables.{Tables}
 use Rattle.algebra.specs.Laws.{ShortCutLaws}
 use Rattle.algebra.specs.Derived.{precedence}
 use Rattle.policy.specs.Rules.{Rule, matches, deciding, first_of, sum_from, sum_of, only_of, combine, decides}
-use Rattle.policy.specs.Combining.{Codes, FirstWayIsPrecedence, ThirdWayGivesWhatStandsAlone, FourthWayNegatesTheSecond, OneDecisionMore, EveryWayCombinesCodes, WorkedCombinations}
+use Rattle.policy.specs.Combining.{Codes, FirstWayIsPrecedence, ThirdWayGivesWhatStandsAlone, OneDecisionMore, EveryWayCombinesCodes}
 
 -- ---- the ways one by one
 -- the first of codes below k is below k, or 0
@@ -49,10 +49,6 @@ third_way_gives_what_stands_alone_lem t = record {
     alone d [] h e = absurd (omega arith)
     alone d (c ∷ []) h e = ap (λ x. x ∷ []) e
     alone d (c ∷ b ∷ ds) h e = absurd (omega arith)
-
--- as it is defined
-pub fourth_way_negates_the_second_lem : FourthWayNegatesTheSecond
-fourth_way_negates_the_second_lem t ds = refl
 
 -- ---- one more
 -- a sum goes on from what it came to
@@ -138,7 +134,3 @@ pub decided-below : (t : Tables) → ShortCutLaws t → (way : ℕ) (rules : Lis
 decided-below t laws way rules cells codes =
     combined-below t laws way (deciding rules cells)
     (All-map _ (λ r. r.decision) _ (all_kept_by (λ r. matches r.named cells) _ rules codes))
-
--- by computing
-pub worked_combinations_lem : WorkedCombinations
-worked_combinations_lem = record { none = refl; permit_alone = refl; deny_alone = refl; deny_then_permit = refl }

@@ -10,6 +10,7 @@ use Rattle.fields.proofs.Answering.{not_both, same_value, and_then_value, given_
 use Rattle.fields.proofs.Reading.{kept}
 use Rattle.algebra.specs.Tables.{Tables}
 use Rattle.algebra.specs.Laws.{ShortCutLaws}
+use Rattle.algebra.specs.Truncated as truncated
 use Rattle.vocabulary.specs.Grid.{grid, cells_at}
 use Rattle.vocabulary.specs.Vocabulary.{Kind, Attribute, shape_of, names_of, place}
 use Rattle.vocabulary.specs.Lookup.{attribute_at}
@@ -110,3 +111,7 @@ module _ (t : Tables) (laws : ShortCutLaws t) (v : List Attribute) (bs : List �
         decisions_below_the_size = λ g. in_grid_lem (ltb g (grid (shape_of v))) _ (at_cells (policy_of v t.size bs) refl (cells_at (shape_of v) g));
         zero_beyond_the_grid = λ g h. cond-false (ltb g (grid (shape_of v))) _ 0 (grind (arith, nat_tests));
       }
+
+-- the same where the laws are known of a copy of the tables
+pub lawful_sheet : (t : Tables) (v : List Attribute) (bs : List ℕ) → ∥ ShortCutLaws t ∥₁ → ∥ Lawful (sheet_meaning t v bs) ∥₁
+lawful_sheet t v bs laws = ∣ sheet_lawful t (truncated.short_cuts laws) v bs ∣₁

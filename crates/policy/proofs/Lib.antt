@@ -2,6 +2,7 @@ pub mod Codes
 pub mod Combined
 pub mod Consulting
 pub mod Counted
+pub mod Decided
 pub mod Lawfully
 pub mod Matched
 pub mod Seeing

@@ -2,6 +2,7 @@ pub mod Combining
 pub mod Counts
 pub mod Example
 pub mod Grids
+pub mod Lawfulness
 pub mod Lists
 pub mod Matching
 pub mod Meaning

@@ -1,7 +1,8 @@
 -- The code's walk, in the words of the sheets.
-use Rattle.std.specs.Prelude.{◌≡◌, ℕ, Bool, false, not, ◌||◌, List, take, Some, None, Ok, Err, Option, Result, slice_index_or, slice_set}
-use Rattle.refusal.specs.declared.Refusal.{Refusal}
-use Rattle.refusal.specs.Answers.{Answer, told_by, given, and_then}
+use Rattle.std.specs.Prelude.{ℕ, Bool, false, not, ◌||◌, List, Some, None, Ok, Option, slice_index_or, slice_set}
+use Rattle.short_list.specs.Items.{items_of}
+use Rattle.refusal.specs.Answers.{Answer, given, and_then}
+use Rattle.fields.specs.Ways.{way_number}
 use Rattle.algebra.specs.Tables.{Tables}
 use Rattle.vocabulary.specs.Vocabulary.{Attribute}
 use Rattle.policy.specs.Rules.{is_among, decides}
@@ -13,32 +14,20 @@ use Rattle.policy.specs.declared.walk.Seen.{Seen}
 use Rattle.policy.specs.declared.walk.Judging.{Judging}
 use Rattle.policy.specs.declared.walk.State.{State}
 use Rattle.policy.specs.declared.walk.State.TheVariants.{Begun, Headed, Ruled}
-use Rattle.policy.specs.declared.walk.Walk.{Walk}
 
 -- what is known of each attribute's cell
 abbrev pub seen_in : Seen → walked.Seen
-seen_in s = take s.len s.met
+seen_in s = items_of s.met
 
 -- the rule that is being read
 abbrev pub judging_in : Judging → Walked
-judging_in j = judging j.way (tally_of j.tally) j.decision (seen_in j.seen)
+judging_in j = judging (way_number j.way) (tally_of j.tally) j.decision (seen_in j.seen)
 
 -- how far the walk has come
 abbrev pub state_in : State → Walked
 state_in Begun = begun
-state_in (Headed w) = headed w
+state_in (Headed w) = headed (way_number w)
 state_in (Ruled j) = judging_in j
-
--- something is known of just n attributes
-abbrev pub Knows : ℕ → State → Type 0
-Knows n Begun = Unit {0}
-Knows n (Headed w) = Unit {0}
-Knows n (Ruled j) = j.seen.len ≡ n
-
--- the walk after a step, or its refusal, is as laid down
-abbrev pub Stepped : ℕ → Answer Walked → Result (Unit {0}) Refusal → Walk → Type 0
-Stepped n a (Ok u) w = (a ≡ Ok (state_in w.state)) × Knows n w.state
-Stepped n a (Err e) w = a ≡ Err (told_by e)
 
 -- a cell is among those that a condition names, if it names any
 abbrev pub among : ℕ → Option (List ℕ) → Option Bool
@@ -56,11 +45,7 @@ missed (Some b) = not b
 
 -- the rule with one more condition, on attribute i
 abbrev pub noting : ℕ → Judging → ℕ → Option Bool → Answer Walked
-noting at j i o = given o 24 at (λ b. Ok (judging j.way (tally_of j.tally) j.decision (meets (seen_in j.seen) i b)))
-
--- how far the code's walk has come
-abbrev pub walk_in : Walk → Walked
-walk_in w = state_in w.state
+noting at j i o = given o 24 at (λ b. Ok (judging (way_number j.way) (tally_of j.tally) j.decision (meets (seen_in j.seen) i b)))
 
 -- what the rules of a policy sheet decide at cells, or the refusal of the sheet
 abbrev pub decided_by : Tables → List Attribute → List ℕ → List ℕ → Answer ℕ

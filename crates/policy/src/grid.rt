@@ -7,10 +7,10 @@ ghost use Rattle.vocabulary.specs.Record.{counts_of};
 use crate::source::Source;
 use vocabulary::record::Shape;
 
-pub mod reading;
+mod reading;
 
 /// Room for the largest grid.
-pub const LARGEST_GRID: usize = 4096;
+const LARGEST_GRID: usize = 4096;
 
 /// The codes of a grid list, and 0 behind them.
 #[derive(Clone, Copy)]
@@ -23,7 +23,11 @@ pub struct GridSource {
 }
 
 impl Source for GridSource {
+    ghost use Rattle.policy.specs.Lawfulness.{codes_lawful};
+
     ghost meaning = { λ s. codes_meaning (counts_of s.shape) s.size s.codes };
+
+    ghost decisions_are_lawful = { λ s. codes_lawful (counts_of s.shape) s.size s.codes s.some_code s.all_below };
 
     fn shape(&self) -> Shape {
         self.shape

@@ -7,6 +7,6 @@ pub mod laws;
 pub mod policy_sheet;
 pub mod sheets;
 pub mod source;
-pub mod tally;
-pub mod walk;
+mod tally;
+mod walk;
 pub mod walking;

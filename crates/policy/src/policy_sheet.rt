@@ -2,6 +2,7 @@
 ghost use Rattle.std.specs.Prelude.{◌≡◌};
 ghost use Rattle.algebra.specs.Layout.{laid_out};
 ghost use Rattle.vocabulary.specs.Record.{attributes_of};
+ghost use Rattle.policy.specs.Meaning.{Lawful};
 ghost use Rattle.policy.specs.Sheets.{sheet_meaning};
 
 use crate::source::Source;
@@ -16,6 +17,7 @@ pub struct PolicySheet<'a> {
     sheet: &'a [u8],
     vocabulary: &'a Vocabulary<'a>,
     tables: CopiedTables,
+    ghost lawful: { ∥ Lawful (sheet_meaning (laid_out tables.size tables.sums tables.meets tables.negations) (attributes_of vocabulary.now) sheet.now) ∥₁ },
 }
 
 impl<'a> PolicySheet<'a> {
@@ -37,7 +39,11 @@ impl<'a> PolicySheet<'a> {
 }
 
 impl<'a> Source for PolicySheet<'a> {
+    ghost use Rattle.policy.specs.Lawfulness.{lawful_of};
+
     ghost meaning = { λ s. sheet_meaning (laid_out s.tables.size s.tables.sums s.tables.meets s.tables.negations) (attributes_of s.vocabulary.now) s.sheet.now };
+
+    ghost decisions_are_lawful = { λ s. lawful_of s.lawful };
 
     fn shape(&self) -> Shape {
         self.vocabulary.shape()

@@ -13,13 +13,14 @@ pub trait Source {
     fn shape(&self) -> Shape
         ensures { counts_of result ≡ (meaning self.now).shape };
 
-    /// The size of the algebra: every decision is below it, and 0 beyond the grid.
+    /// The size of the algebra: every decision is below it.
     fn size(&self) -> u8
-        ensures size_of_the_algebra { result ≡ (meaning self.now).size }
-        ensures decisions_are_lawful { Lawful (meaning self.now) };
+        ensures { result ≡ (meaning self.now).size };
 
     /// The decision for a grid number; the meaning stays.
     fn consult(&mut self, number: usize) -> u8
         ensures answers_by_its_meaning { result ≡ (meaning self.old).decision number }
         ensures meaning_stays { meaning self.new ≡ meaning self.old };
+
+    ghost decisions_are_lawful: { (s : Self) → Lawful (meaning s) };
 }

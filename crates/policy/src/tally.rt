@@ -1,15 +1,16 @@
 //! The decisions of the rules that match, combined one after another.
 ghost use Rattle.std.specs.Prelude.{◌≡◌};
+ghost use Rattle.fields.specs.Ways.{way_number};
 ghost use Rattle.policy.specs.Walking.{no_tally, settled};
 ghost use Rattle.policy.specs.Tallies.{tally_of, with_one};
 
 use algebra::Algebra;
+use fields::way::Way;
 
-/// Whether no rule has matched yet, and what the decisions so far come to.
+/// What the decisions so far come to, once a rule has matched.
 #[derive(Clone, Copy)]
-pub struct Tally {
-    none: bool,
-    value: u8,
+pub(crate) struct Tally {
+    value: Option<u8>,
 }
 
 impl Tally {
@@ -17,34 +18,31 @@ impl Tally {
     pub(crate) fn new() -> Tally
         ensures { tally_of result ≡ no_tally }
     {
-        Tally {
-            none: true,
-            value: 0,
-        }
+        Tally { value: None }
     }
 
     /// One more rule matches, with this decision.
-    pub(crate) fn add<A: Algebra>(&mut self, algebra: &A, way: u8, decision: u8)
-        ensures { tally_of self.new ≡ with_one (A.tables algebra.now) way (tally_of self.old) decision }
+    pub(crate) fn add<A: Algebra>(&mut self, algebra: &A, way: Way, decision: u8)
+        ensures { tally_of self.new ≡ with_one (A.tables algebra.now) (way_number way) (tally_of self.old) decision }
     {
-        self.value = match (way, self.none) {
-            (1, false) => self.value,
-            (2, false) => algebra.sum(self.value, decision),
-            (3, false) => 0,
-            (1 | 2 | 3, true) => decision,
-            (_, true) => algebra.negation(decision),
-            (_, false) => algebra.sum(self.value, algebra.negation(decision)),
-        };
-        self.none = false;
+        self.value = Some(match (way, self.value) {
+            (Way::First, Some(value)) => value,
+            (Way::Sum, Some(value)) => algebra.sum(value, decision),
+            (Way::Only, Some(_)) => 0,
+            (Way::First | Way::Sum | Way::Only, None) => decision,
+            (Way::OppositeSum, None) => algebra.negation(decision),
+            (Way::OppositeSum, Some(value)) => algebra.sum(value, algebra.negation(decision)),
+        });
     }
 
     /// The decision, once all rules are read.
-    pub(crate) fn decision<A: Algebra>(&self, algebra: &A, way: u8) -> u8
-        ensures { result ≡ settled (A.tables algebra.now) way (tally_of self.now) }
+    pub(crate) fn decision<A: Algebra>(&self, algebra: &A, way: Way) -> u8
+        ensures { result ≡ settled (A.tables algebra.now) (way_number way) (tally_of self.now) }
     {
+        let value = self.value.unwrap_or(0);
         match way {
-            1 | 2 | 3 => self.value,
-            _ => algebra.negation(self.value),
+            Way::First | Way::Sum | Way::Only => value,
+            Way::OppositeSum => algebra.negation(value),
         }
     }
 }

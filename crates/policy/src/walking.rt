@@ -1,82 +1,73 @@
 //! Walking through a policy sheet, for one list of cells.
-ghost use Rattle.std.specs.Prelude.{◌≡◌, ◌<◌, ◌≤◌, ◌&&◌, ◌||◌, length, replicate, None, nat_le, nat_lt};
-ghost use Rattle.refusal.specs.Answers.{answer_by};
-ghost use Rattle.fields.specs.Fields.{reading};
+ghost use Rattle.std.specs.Prelude.{◌≡◌, ◌<◌, ◌&&◌, ◌||◌, length, replicate, None, Ok, IfOk, nat_le, nat_lt};
+ghost use Rattle.refusal.specs.Answers.{answer_by, given};
 ghost use Rattle.fields.specs.Parts.{itself};
-ghost use Rattle.fields.specs.Shown.{bare, said, PartsFit};
+ghost use Rattle.fields.specs.Shown.{bare, said};
+ghost use Rattle.fields.specs.Ways.{way_number};
+ghost use Rattle.vocabulary.specs.Vocabulary.{names_of, place};
 ghost use Rattle.vocabulary.specs.Lookup.{attribute_at};
 ghost use Rattle.vocabulary.specs.Record.{attributes_of};
 ghost use Rattle.policy.specs.Sheets.{between, choice_cells, range_cells, sheet_meaning};
-ghost use Rattle.policy.specs.Walking.{was_met, all_met, may_follow, closed as closed_by, open_rule as opened, enter as enter_of, step as step_of, finish as finish_of, begun};
+ghost use Rattle.policy.specs.Walking.{was_met, all_met, may_follow, closed as closed_by, open_rule as opened, enter as enter_of, step as step_of, finish as finish_of};
 ghost use Rattle.policy.specs.Tallies.{tally_of};
-ghost use Rattle.policy.specs.Walks.{seen_in, state_in, walk_in, decided_by, checked_by, nothing, Knows, Stepped, among, meets, missed, noting};
+ghost use Rattle.policy.specs.Walks.{seen_in, state_in, decided_by, checked_by, nothing, among, meets, missed, noting};
 
 use crate::tally::Tally;
 use crate::walk::{Judging, Seen, State, Walk};
 use algebra::Algebra;
-use fields::raw::next_field;
+use fields::sheet::Fields;
+use fields::way::Way;
 use fields::words::number;
 use fields::{Field, RawField};
 use refusal::{Cause, Refusal};
-use vocabulary::record::Vocabulary;
-use vocabulary::record::reading::LONGEST_SHEET;
+use short_list::ShortList;
+use vocabulary::record::{CellList, Vocabulary};
 
 /// The cell was named before, or is now.
 fn meets_now(before: Option<bool>, met: bool) -> bool
     ensures { result ≡ (was_met before || met) }
 {
-    match before {
-        Some(true) => true,
-        _ => met,
-    }
+    before.unwrap_or(false) || met
 }
 
 /// The attribute is named, and its cell is not.
 fn is_missed(seen: Option<bool>) -> bool
     ensures { result ≡ missed seen }
 {
-    match seen {
-        Some(met) => !met,
-        None => false,
-    }
+    seen == Some(false)
 }
 
 impl Seen {
     /// No condition is read yet.
     fn none(vocabulary: &Vocabulary) -> Seen
-        ensures { (seen_in result ≡ replicate (length (attributes_of vocabulary.now)) None) × (result.len ≡ length (attributes_of vocabulary.now)) }
+        ensures { seen_in result ≡ replicate (length (attributes_of vocabulary.now)) None }
     {
         Seen {
-            met: [None; 8],
-            len: vocabulary.len(),
+            met: ShortList::repeat(None, vocabulary.len()),
         }
     }
 
-    /// A condition on attribute `i` names the cell, or it does not.
+    /// A condition on attribute `i` names the cell, or it does not; past the attributes nothing is noted.
     fn note(&mut self, i: usize, met: bool)
-        requires { i < self.old.len }
-        ensures { (seen_in self.new ≡ meets (seen_in self.old) i met) × (self.new.len ≡ self.old.len) }
+        ensures { seen_in self.new ≡ meets (seen_in self.old) i met }
     {
-        self.met[i] = Some(meets_now(self.met[i], met));
+        if let Some(before) = self.met.as_slice().get(i).copied() {
+            self.met.set(i, Some(meets_now(before, met)));
+        }
     }
 
     /// Every attribute that is named has its cell named.
     fn all_met(&self) -> bool
         ensures { result ≡ all_met (seen_in self.now) }
     {
-        for i in 0..self.len {
-            if is_missed(self.met[i]) {
-                return false;
-            }
-        }
-        true
+        self.met.as_slice().iter().all(|seen| !is_missed(*seen))
     }
 }
 
 impl Judging {
     /// What the rules come to with the one that is being read.
     fn close<A: Algebra>(&self, algebra: &A) -> Tally
-        ensures { tally_of result ≡ closed_by (A.tables algebra.now) self.now.way (tally_of self.now.tally) self.now.decision (seen_in self.now.seen) }
+        ensures { tally_of result ≡ closed_by (A.tables algebra.now) (way_number self.now.way) (tally_of self.now.tally) self.now.decision (seen_in self.now.seen) }
     {
         let mut tally = self.tally;
         if self.seen.all_met() {
@@ -84,23 +75,29 @@ impl Judging {
         }
         tally
     }
+
+    /// A further condition, on attribute `i`, which names the cell or does not.
+    fn note(mut self, raw: &RawField, i: usize, met: Option<bool>) -> Result<State, Refusal>
+        ensures { answer_by state_in result ≡ noting raw.now.at self i met }
+    {
+        let met = met.ok_or(raw.refused(Cause::ForeignValue))?;
+        self.seen.note(i, met);
+        Ok(State::Ruled(self))
+    }
 }
 
 /// Whether a value of attribute `i` is the cell.
 fn is_chosen(vocabulary: &Vocabulary, i: usize, value: &[u8], cell: u8) -> Option<bool>
     ensures { result ≡ among cell (choice_cells (attribute_at (attributes_of vocabulary.now) i).kind value.now) }
 {
-    match vocabulary.value_cell(i, value) {
-        Some(chosen) => Some(chosen == cell),
-        None => None,
-    }
+    vocabulary.value_cell(i, value).map(|chosen| chosen == cell)
 }
 
 /// Whether the cell lies from one up to, not including, another.
 fn is_from(low: u8, high: u8, cell: u8) -> bool
     ensures { result ≡ (nat_le low cell && nat_lt cell high) }
 {
-    low <= cell && cell < high
+    (low..high).contains(&cell)
 }
 
 /// Whether the cell lies from one cut up to another, if these are in order.
@@ -108,11 +105,7 @@ fn lies_between(low: Option<u8>, high: Option<u8>, cell: u8) -> Option<bool>
     ensures { result ≡ among cell (between low high) }
 {
     let (low, high) = (low?, high?);
-    if low < high {
-        Some(is_from(low, high, cell))
-    } else {
-        None
-    }
+    (low < high).then_some(is_from(low, high, cell))
 }
 
 /// Whether the cell lies from one cut of attribute `i` up to another.
@@ -127,111 +120,68 @@ impl State {
     fn may_precede(&self, tag: u8) -> bool
         ensures { result ≡ may_follow (state_in self.now) tag }
     {
-        match (*self, tag) {
-            (State::Begun, 0x1F) => true,
-            (State::Headed(_), 0x20) => true,
-            (State::Ruled(_), 0x20..=0x22) => true,
-            _ => false,
-        }
+        matches!(
+            (*self, tag),
+            (State::Begun, 0x1F) | (State::Headed(_), 0x20) | (State::Ruled(_), 0x20..=0x22)
+        )
     }
 }
 
-impl Walk {
+impl<A: Algebra> Walk<'_, A> {
+    /// Where the attribute of this name stands.
+    fn attribute(&self, raw: &RawField, name: &[u8]) -> Result<usize, Refusal>
+        ensures place_of_the_name { answer_by itself result ≡ given (place name.now (names_of (attributes_of self.now.vocabulary.now))) 23 raw.now.at (λ i. Ok i) }
+        ensures has_a_cell { IfOk result (λ i. i < length self.now.cells.now) }
+    {
+        self.vocabulary
+            .find(name)
+            .ok_or(raw.refused(Cause::UnknownAttribute))
+    }
+
     /// A further rule, after those in the tally.
-    fn open_rule<A: Algebra>(
-        &mut self,
-        algebra: &A,
-        vocabulary: &Vocabulary,
+    fn open_rule(
+        &self,
         raw: &RawField,
-        way: u8,
+        way: Way,
         tally: Tally,
         decision: u8,
-    ) -> Result<(), Refusal>
-        ensures { Stepped (length (attributes_of vocabulary.now)) (opened (length (attributes_of vocabulary.now)) (A.tables algebra.now).size raw.now.at way (tally_of tally) decision) result self.new }
+    ) -> Result<State, Refusal>
+        ensures { answer_by state_in result ≡ opened (length (attributes_of self.now.vocabulary.now)) (A.tables self.now.algebra.now).size raw.now.at (way_number way) (tally_of tally) decision }
     {
-        if decision == 0 || decision >= algebra.size() {
+        if decision == 0 || decision >= self.algebra.size() {
             return Err(raw.refused(Cause::BadContent));
         }
-        let seen = Seen::none(vocabulary);
-        self.state = State::Ruled(Judging {
+        let seen = Seen::none(self.vocabulary);
+        Ok(State::Ruled(Judging {
             way,
             tally,
             decision,
             seen,
-        });
-        Ok(())
-    }
-
-    /// A further condition of the rule, on attribute `i`, which names the cell or does not.
-    fn note(
-        &mut self,
-        raw: &RawField,
-        rule: Judging,
-        i: usize,
-        met: Option<bool>,
-    ) -> Result<(), Refusal>
-        requires { i < rule.seen.len }
-        ensures { Stepped rule.seen.len (noting raw.now.at rule i met) result self.new }
-    {
-        let Some(met) = met else {
-            return Err(raw.refused(Cause::ForeignValue));
-        };
-        let mut rule = rule;
-        rule.seen.note(i, met);
-        self.state = State::Ruled(rule);
-        Ok(())
+        }))
     }
 
     /// What a field says is entered.
-    fn enter<A: Algebra>(
-        &mut self,
-        algebra: &A,
-        vocabulary: &Vocabulary,
-        cells: &[u8],
-        raw: &RawField,
-        field: Field,
-    ) -> Result<(), Refusal>
-        requires knows { Knows (length (attributes_of vocabulary.now)) self.old.state }
-        requires one_cell_an_attribute { length cells.now ≡ length (attributes_of vocabulary.now) }
-        requires parts_fit { PartsFit raw.now.content.now field }
-        ensures { Stepped (length (attributes_of vocabulary.now)) (enter_of (A.tables algebra.now) (attributes_of vocabulary.now) cells.now raw.now.at (state_in self.old.state) (said field.entry)) result self.new }
+    fn enter(&self, state: State, raw: &RawField, field: Field) -> Result<State, Refusal>
+        ensures { answer_by state_in result ≡ enter_of (A.tables self.now.algebra.now) (attributes_of self.now.vocabulary.now) self.now.cells.now raw.now.at (state_in state) (said field.entry) }
     {
-        match (field, self.state) {
-            (Field::Way(way), State::Begun) => {
-                self.state = State::Headed(way);
-                Ok(())
+        match (field, state) {
+            (Field::Way(way), State::Begun) => Ok(State::Headed(way)),
+            (Field::Rule(decision), State::Headed(way)) => {
+                self.open_rule(raw, way, Tally::new(), decision)
             }
-            (Field::Rule(decision), State::Headed(way)) => self.open_rule(
-                algebra,
-                vocabulary,
-                raw,
-                way,
-                Tally::new(),
-                decision,
-            ),
-            (Field::Rule(decision), State::Ruled(rule)) => self.open_rule(
-                algebra,
-                vocabulary,
-                raw,
-                rule.way,
-                rule.close(algebra),
-                decision,
-            ),
+            (Field::Rule(decision), State::Ruled(rule)) => {
+                self.open_rule(raw, rule.way, rule.close(self.algebra), decision)
+            }
             (Field::Choice(name, value), State::Ruled(rule)) => {
-                let Some(i) = vocabulary.find(name) else {
-                    return Err(raw.refused(Cause::UnknownAttribute));
-                };
-                self.note(raw, rule, i, is_chosen(vocabulary, i, value, cells[i]))
+                let i = self.attribute(raw, name)?;
+                rule.note(raw, i, is_chosen(self.vocabulary, i, value, self.cells[i]))
             }
             (Field::Range(name, from, to), State::Ruled(rule)) => {
-                let Some(i) = vocabulary.find(name) else {
-                    return Err(raw.refused(Cause::UnknownAttribute));
-                };
-                self.note(
+                let i = self.attribute(raw, name)?;
+                rule.note(
                     raw,
-                    rule,
                     i,
-                    is_in_range(vocabulary, i, number(from), number(to), cells[i]),
+                    is_in_range(self.vocabulary, i, number(from), number(to), self.cells[i]),
                 )
             }
             _ => Err(raw.refused(Cause::UnexpectedTag)),
@@ -239,79 +189,42 @@ impl Walk {
     }
 
     /// One field: whether its tag may follow depends on what came before.
-    fn step<A: Algebra>(
-        &mut self,
-        algebra: &A,
-        vocabulary: &Vocabulary,
-        cells: &[u8],
-        raw: &RawField,
-    ) -> Result<(), Refusal>
-        requires knows { Knows (length (attributes_of vocabulary.now)) self.old.state }
-        requires one_cell_an_attribute { length cells.now ≡ length (attributes_of vocabulary.now) }
-        ensures { Stepped (length (attributes_of vocabulary.now)) (step_of (A.tables algebra.now) (attributes_of vocabulary.now) cells.now raw.now.at (state_in self.old.state) (bare raw.now)) result self.new }
+    fn step(&self, state: State, raw: &RawField) -> Result<State, Refusal>
+        ensures { answer_by state_in result ≡ step_of (A.tables self.now.algebra.now) (attributes_of self.now.vocabulary.now) self.now.cells.now raw.now.at (state_in state) (bare raw.now) }
     {
-        if self.state.may_precede(raw.tag) {
-            self.enter(algebra, vocabulary, cells, raw, raw.field()?)
+        if state.may_precede(raw.tag) {
+            self.enter(state, raw, raw.field()?)
         } else {
             Err(raw.refused(Cause::UnexpectedTag))
         }
     }
 
     /// The decision once the sheet has ended.
-    fn finish<A: Algebra>(&self, algebra: &A, end: usize) -> Result<u8, Refusal>
-        ensures { answer_by itself result ≡ finish_of (A.tables algebra.now) end (state_in self.now.state) }
+    fn finish(&self, state: State, end: usize) -> Result<u8, Refusal>
+        ensures { answer_by itself result ≡ finish_of (A.tables self.now.algebra.now) end (state_in state) }
     {
-        match self.state {
+        match state {
             State::Begun => Err(Refusal {
                 cause: Cause::Truncated,
                 place: end,
             }),
-            State::Headed(way) => Ok(Tally::new().decision(algebra, way)),
-            State::Ruled(rule) => Ok(rule.close(algebra).decision(algebra, rule.way)),
+            State::Headed(way) => Ok(Tally::new().decision(self.algebra, way)),
+            State::Ruled(rule) => Ok(rule.close(self.algebra).decision(self.algebra, rule.way)),
         }
     }
-}
 
-/// How far a walk comes through all fields of a sheet.
-fn walk<A: Algebra>(
-    algebra: &A,
-    vocabulary: &Vocabulary,
-    cells: &[u8],
-    sheet: &[u8],
-) -> Result<Walk, Refusal>
-    requires { length cells.now ≡ length (attributes_of vocabulary.now) }
-    ensures { answer_by walk_in result ≡ reading (step_of (A.tables algebra.now) (attributes_of vocabulary.now) cells.now) 0 begun 0 sheet.now }
-{
-    let mut walk = Walk {
-        state: State::Begun,
-    };
-    let mut at = 0;
-    while at < sheet.len() {
-        let raw = next_field(sheet, at)?;
-        walk.step(algebra, vocabulary, cells, &raw)?;
-        at = raw.next;
+    /// What the rules of a policy sheet decide at the cells.
+    fn decide(&self, sheet: &[u8]) -> Result<u8, Refusal>
+        ensures { answer_by itself result ≡ decided_by (A.tables self.now.algebra.now) (attributes_of self.now.vocabulary.now) self.now.cells.now sheet.now }
+    {
+        let fields = Fields::of_sheet(sheet)?;
+        let mut state = State::Begun;
+        for raw in fields {
+            let raw = raw?;
+            state = self.step(state, &raw)?;
+        }
+        self.finish(state, sheet.len())
     }
-    Ok(walk)
-}
-
-/// What the rules of a policy sheet decide at a list of cells, one an attribute.
-pub(crate) fn decide<A: Algebra>(
-    algebra: &A,
-    vocabulary: &Vocabulary,
-    cells: &[u8],
-    sheet: &[u8],
-) -> Result<u8, Refusal>
-    requires { length cells.now ≡ length (attributes_of vocabulary.now) }
-    ensures { answer_by itself result ≡ decided_by (A.tables algebra.now) (attributes_of vocabulary.now) cells.now sheet.now }
-{
-    if sheet.len() > LONGEST_SHEET {
-        return Err(Refusal {
-            cause: Cause::SheetTooLong,
-            place: 0,
-        });
-    }
-    let walk = walk(algebra, vocabulary, cells, sheet)?;
-    walk.finish(algebra, sheet.len())
 }
 
 /// What the rules of a policy sheet decide at a grid number; 0 beyond the grid and for a refused sheet.
@@ -327,19 +240,24 @@ pub fn decide_number<A: Algebra>(
     let Some(cells) = shape.cells(number) else {
         return 0;
     };
-    match decide(algebra, vocabulary, cells.as_slice(), sheet) {
-        Ok(decision) => decision,
-        Err(_) => 0,
-    }
+    let walk = Walk {
+        algebra,
+        vocabulary,
+        cells: cells.as_slice(),
+    };
+    walk.decide(sheet).unwrap_or(0)
 }
 
 /// Whether a sheet describes a policy, or why it is refused.
 pub fn check<A: Algebra>(algebra: &A, vocabulary: &Vocabulary, sheet: &[u8]) -> Result<(), Refusal>
     ensures { answer_by nothing result ≡ checked_by (A.tables algebra.now).size (attributes_of vocabulary.now) sheet.now }
 {
-    let anywhere = [0u8; 8];
-    match decide(algebra, vocabulary, &anywhere[0..vocabulary.len()], sheet) {
-        Ok(_decision) => Ok(()),
-        Err(refusal) => Err(refusal),
-    }
+    let anywhere: CellList = ShortList::repeat(0, vocabulary.len());
+    let walk = Walk {
+        algebra,
+        vocabulary,
+        cells: anywhere.as_slice(),
+    };
+    walk.decide(sheet)?;
+    Ok(())
 }

@@ -1,9 +1,9 @@
 //! Reading a grid list.
-ghost use Rattle.std.specs.Prelude.{◌≡◌, ℕ, ◌≤◌, length, IfOk, slice_index};
+ghost use Rattle.std.specs.Prelude.{◌≡◌, ◌≤◌, ◌++◌, length, drop, replicate, IfOk, nat_le, position};
 ghost use Rattle.refusal.specs.Answers.{answer_by};
 ghost use Rattle.vocabulary.specs.Record.{counts_of};
 ghost use Rattle.policy.specs.Grids.{codes_held, meaning_of};
-ghost use Rattle.policy.specs.Lists.{checked_from, codes_of, codes_meaning};
+ghost use Rattle.policy.specs.Lists.{codes_of, codes_meaning};
 
 use crate::grid::{GridSource, LARGEST_GRID};
 use algebra::Algebra;
@@ -23,36 +23,33 @@ impl GridSource {
             });
         }
         let size = algebra.size();
-        check(list, size)?;
-        let codes = held(list);
-        Ok(GridSource { codes, shape, size })
+        match first_beyond(list, size) {
+            Some(place) => Err(Refusal {
+                cause: Cause::BadContent,
+                place,
+            }),
+            None => {
+                let codes = held(list);
+                Ok(GridSource { codes, shape, size })
+            }
+        }
     }
 }
 
-/// Refuses the first code that is not below the size.
-fn check(list: &[u8], size: u8) -> Result<(), Refusal>
-    ensures { answer_by (λ _. list.now) result ≡ checked_from size 0 list.now }
+/// Where the first code stands that is not below the size.
+fn first_beyond(list: &[u8], size: u8) -> Option<usize>
+    ensures { result ≡ position (λ c. nat_le size c) list.now }
 {
-    for (i, code) in list.iter().enumerate() {
-        if *code >= size {
-            return Err(Refusal {
-                cause: Cause::BadContent,
-                place: i,
-            });
-        }
-    }
-    Ok(())
+    list.iter().position(|code| *code >= size)
 }
 
 /// The codes of a list, and 0 behind them.
 fn held(list: &[u8]) -> [u8; LARGEST_GRID]
     requires { length list.now ≤ 4096 }
     ensures room_for_the_largest_grid { length result ≡ 4096 }
-    ensures codes_then_zeros { (g : ℕ) → slice_index result g ≡ slice_index list.now g }
+    ensures codes_then_zeros { result ≡ list.now ++ drop (length list.now) (replicate 4096 0) }
 {
     let mut codes = [0u8; LARGEST_GRID];
-    for (i, code) in list.iter().enumerate() {
-        codes[i] = *code;
-    }
+    codes[..list.len()].copy_from_slice(list);
     codes
 }

@@ -1,27 +1,16 @@
-use Rattle.std.proofs.Common.{◌≡◌, Some, ap, ◌∙◌}
-use Rattle.vocabulary.specs.Grid.{cells_if}
-use Rattle.vocabulary.specs.Vocabulary.{shape_of}
+use Rattle.std.proofs.Common.{◌∙◌}
 use Rattle.vocabulary.specs.Record.{attributes_of}
-use Rattle.policy.proofs.Consulting.{as_many, answers, answers_nothing}
+use Rattle.policy.proofs.Consulting.{cells_found, as_many, answers}
 use Rattle.policy.proofs.walking.decide_number.Goals as goal
 
-pub decide-requires : goal.decide-requires
-decide-requires g c =
+pub invariant_of-walk : goal.invariant_of-walk
+invariant_of-walk g c =
     let v = attributes_of c.args.vocabulary.now in
-    let cs = c.as_slice.result.now in
-    let found : Some cs ≡ cells_if (shape_of v) c.args.number = ap Some c.as_slice.ensures ∙ c.in-Some.ensures ∙ ap (λ ns. cells_if ns c.args.number) c.shape-shape.ensures in
-    as_many (g.A.Algebra.tables c.args.algebra.now) v c.args.sheet.now c.args.number cs found
+    record { one_cell_an_attribute = as_many v _ _ (cells_found v _ _ _ c.args.number c.shape-shape.ensures c.as_slice.ensures c.in-Some.ensures) }
 
-pub returns-in-Ok : goal.returns-in-Ok
-returns-in-Ok g c =
+pub returns : goal.returns
+returns g c =
     let v = attributes_of c.args.vocabulary.now in
-    let cs = c.as_slice.result.now in
-    let found : Some cs ≡ cells_if (shape_of v) c.args.number = ap Some c.as_slice.ensures ∙ c.in-Some.ensures ∙ ap (λ ns. cells_if ns c.args.number) c.shape-shape.ensures in
-    answers (g.A.Algebra.tables c.args.algebra.now) v c.args.sheet.now c.args.number cs found c.in-Ok.decision c.in-Ok.ensures
-
-pub returns-in-Err : goal.returns-in-Err
-returns-in-Err g c =
-    let v = attributes_of c.args.vocabulary.now in
-    let cs = c.as_slice.result.now in
-    let found : Some cs ≡ cells_if (shape_of v) c.args.number = ap Some c.as_slice.ensures ∙ c.in-Some.ensures ∙ ap (λ ns. cells_if ns c.args.number) c.shape-shape.ensures in
-    answers_nothing (g.A.Algebra.tables c.args.algebra.now) v c.args.sheet.now c.args.number cs found _ c.in-Err.ensures
+    let t = g.A.Algebra.tables c.args.algebra.now in
+    c.unwrap_or.ensures
+    ∙ answers t v c.args.sheet.now _ _ (cells_found v _ _ _ c.args.number c.shape-shape.ensures c.as_slice.ensures c.in-Some.ensures) _ c.decide.ensures
