@@ -2,9 +2,8 @@ use Rattle.std.proofs.Common.{◌≡◌, map, Ok, sym, ap, ◌∙◌, ap₂}
 use Rattle.std.proofs.lemmas.Result.{err_from_is_err_and}
 use Rattle.fields.specs.Parts.{list_now}
 use Rattle.fields.specs.Shown.{bare}
-use Rattle.vocabulary.specs.Vocabulary.{vocabulary_of}
 use Rattle.vocabulary.specs.Record.{attributes_of}
-use Rattle.location.proofs.Serving.{ServedSoFar, served_to, first_refused, vocabulary_refused, vocabulary_read, field_truncated, field_refused, field_served, input_ended, refusal_handed_on, failure_handed_on}
+use Rattle.location.proofs.Serving.{served_to, first_refused, vocabulary_refused, vocabulary_read, field_truncated, field_refused, field_served, input_ended, refusal_handed_on, failure_handed_on}
 use Rattle.decision.specs.Differing.{differences_from}
 use Rattle.decision.specs.Decided.{nothing_yet, serve, reported}
 use Rattle.decision.specs.Shown.{line_shown}
