@@ -13,7 +13,7 @@ ghost use Rattle.building.specs.Walk.{fresh, Aim, Underway};
 
 use diagram::{Link, Node};
 use marking::Marking;
-use places::{Places, Seen};
+use places::{Level, Places, Seen};
 use stack::Stack;
 use table::reduce;
 
@@ -48,14 +48,6 @@ impl<T: Copy> Frame<T> {
     }
 }
 
-/// The number of cells at a level; none past the last attribute.
-fn cells(counts: &[u8], level: u8) -> u8
-    ensures { result ≡ slice_index counts.now level }
-{
-    let i = usize::from(level);
-    if i < counts.len() { counts[i] } else { 0 }
-}
-
 /// Opens a place: its link at once, or a frame for it and the place in its first cell.
 fn down<P: Places>(
     places: &mut P,
@@ -73,10 +65,15 @@ fn down<P: Places>(
     ensures less_is_left { work_left counts.now (frames stack.new.slots.now stack.new.len) result < work_left counts.now (frames stack.old.slots.now stack.old.len) (Turn.Open level place) }
     ensures walk_goes_on { (aim : Aim) (marks : List ℕ) → Underway (P.Places.stands places.old) (P.Places.says places.old) counts.now aim nodes.now marks (frames stack.old.slots.now stack.old.len) (Turn.Open level place) → Underway (P.Places.stands places.new) (P.Places.says places.new) counts.now aim nodes.now marks (frames stack.new.slots.now stack.new.len) result }
 {
-    match places.look(nodes, counts, level, place) {
+    let here = Level {
+        nodes,
+        counts,
+        number: level,
+    };
+    match places.look(&here, place) {
         Seen::Settled(link) => Turn::Hand(link),
         Seen::Branches(at) => {
-            let first = places.child(nodes, counts, at, place, 0);
+            let first = places.child(&Level { number: at, ..here }, place, 0);
             match stack.push(Frame::new(place, at)) {
                 Ok(()) => Turn::Open(at + 1, first),
                 Err(_) => Turn::End(None),
@@ -108,7 +105,12 @@ fn up<P: Places>(
     let Some(frame) = stack.pop() else {
         return Turn::End(Some(link));
     };
-    let n = cells(counts, frame.level);
+    let level = Level {
+        nodes,
+        counts,
+        number: frame.level,
+    };
+    let n = level.cells();
     if frame.cell >= n {
         return Turn::End(None);
     }
@@ -116,12 +118,11 @@ fn up<P: Places>(
     branches[frame.cell as usize] = link;
     let cell = frame.cell + 1;
     if cell < n {
-        let place = places.child(nodes, counts, frame.level, frame.place, cell);
+        let place = places.child(&level, frame.place, cell);
         return match stack.push(Frame {
-            place: frame.place,
-            level: frame.level,
             cell,
             branches,
+            ..frame
         }) {
             Ok(()) => Turn::Open(frame.level + 1, place),
             Err(_) => Turn::End(None),
