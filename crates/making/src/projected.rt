@@ -52,6 +52,7 @@ impl<'a> Projected<'a> {
     }
 
     /// The first level, from one on, at which the link's record stands or a cell is left out.
+    /// One past 255 is answered as 255, up to which the link is passed on too.
     fn first_branch(&self, level: &Level, link: Link) -> Option<u8>
         ensures { FirstBranch self.now.masks.now level.now.counts.now level.now.nodes.now level.now.number link result }
     {
