@@ -1,12 +1,16 @@
 -- The frames on a stack, the newest first.
-use Rattle.std.proofs.Common.{◌≡◌, ℕ, ◌+◌, ◌≤◌, List, [], ◌∷◌, reverse, length, take, refl, ap, ◌∙◌, add-one, length-append, length-take-le}
+use Rattle.std.proofs.Common.{◌≡◌, ℕ, ◌+◌, ◌≤◌, List, [], ◌∷◌, reverse, length, take, sym, refl, ap, ◌∙◌, add-one, length-append, length-take-le}
 use mathlib.Core.List.{reverse-append}
-use Rattle.stack.specs.Entries.{with_newest}
+use Rattle.stack.specs.Entries.{with_newest, Newest}
 use Rattle.building.specs.Work.{frames}
 
 -- the newest entry is the first frame
 pub frames_onto : {T : Type 0} (older after : List T) (x : T) → after ≡ with_newest older x → reverse after ≡ x ∷ reverse older
 frames_onto older after x e = ap reverse e ∙ reverse-append older (x ∷ [])
+
+-- so the entry that was popped stood before the frames that are left
+pub frames_popped : {T : Type 0} (slots slots' : List T) (len left : ℕ) (x : T) → Newest slots len x left → slots' ≡ slots → frames slots len ≡ x ∷ frames slots' left
+frames_popped slots slots' len left x newest same = frames_onto _ _ x newest.x_is_newest ∙ ap (λ s. x ∷ frames s left) (sym same)
 
 length_turned : {T : Type 0} (xs : List T) → length (reverse xs) ≡ length xs
 length_turned [] = refl

@@ -2,7 +2,8 @@
 #![tactic(auto)]
 
 ghost use Rattle.std.specs.Prelude.{◌≡◌, ℕ, ◌<◌, ◌≤◌, List, length, slice_index};
-ghost use Rattle.vocabulary.specs.Grid.{Filled, Narrow};
+ghost use Rattle.vocabulary.specs.Grid.{Narrow};
+ghost use Rattle.vocabulary.specs.Record.{counts_of};
 ghost use Rattle.marking.specs.Marks.{Marked};
 ghost use Rattle.diagram.specs.Sound.{Sound};
 ghost use Rattle.places.specs.Places.{FillTheGrid, KeepWhileMemoryGrows};
@@ -13,9 +14,10 @@ ghost use Rattle.building.specs.Walk.{fresh, Aim, Underway};
 
 use diagram::{Link, Node};
 use marking::Marking;
-use places::{Places, Seen};
+use places::{Level, Places, Seen};
 use stack::Stack;
 use table::reduce;
+use vocabulary::record::Shape;
 
 /// A place whose cells are built one after the other, with the branches of the cells before `cell`.
 #[derive(Clone, Copy)]
@@ -48,14 +50,6 @@ impl<T: Copy> Frame<T> {
     }
 }
 
-/// The number of cells at a level; none past the last attribute.
-fn cells(counts: &[u8], level: u8) -> u8
-    ensures { result ≡ slice_index counts.now level }
-{
-    let i = usize::from(level);
-    if i < counts.len() { counts[i] } else { 0 }
-}
-
 /// Opens a place: its link at once, or a frame for it and the place in its first cell.
 fn down<P: Places>(
     places: &mut P,
@@ -73,10 +67,15 @@ fn down<P: Places>(
     ensures less_is_left { work_left counts.now (frames stack.new.slots.now stack.new.len) result < work_left counts.now (frames stack.old.slots.now stack.old.len) (Turn.Open level place) }
     ensures walk_goes_on { (aim : Aim) (marks : List ℕ) → Underway (P.Places.stands places.old) (P.Places.says places.old) counts.now aim nodes.now marks (frames stack.old.slots.now stack.old.len) (Turn.Open level place) → Underway (P.Places.stands places.new) (P.Places.says places.new) counts.now aim nodes.now marks (frames stack.new.slots.now stack.new.len) result }
 {
-    match places.look(nodes, counts, level, place) {
+    let here = Level {
+        nodes,
+        counts,
+        number: level,
+    };
+    match places.look(&here, place) {
         Seen::Settled(link) => Turn::Hand(link),
         Seen::Branches(at) => {
-            let first = places.child(nodes, counts, at, place, 0);
+            let first = places.child(&Level { number: at, ..here }, place, 0);
             match stack.push(Frame::new(place, at)) {
                 Ok(()) => Turn::Open(at + 1, first),
                 Err(_) => Turn::End(None),
@@ -108,7 +107,12 @@ fn up<P: Places>(
     let Some(frame) = stack.pop() else {
         return Turn::End(Some(link));
     };
-    let n = cells(counts, frame.level);
+    let level = Level {
+        nodes,
+        counts,
+        number: frame.level,
+    };
+    let n = level.cells();
     if frame.cell >= n {
         return Turn::End(None);
     }
@@ -116,12 +120,11 @@ fn up<P: Places>(
     branches[frame.cell as usize] = link;
     let cell = frame.cell + 1;
     if cell < n {
-        let place = places.child(nodes, counts, frame.level, frame.place, cell);
+        let place = places.child(&level, frame.place, cell);
         return match stack.push(Frame {
-            place: frame.place,
-            level: frame.level,
             cell,
             branches,
+            ..frame
         }) {
             Ok(()) => Turn::Open(frame.level + 1, place),
             Err(_) => Turn::End(None),
@@ -138,20 +141,19 @@ pub fn build<P: Places>(
     places: &mut P,
     nodes: &mut [Node],
     marking: &mut Marking,
-    counts: &[u8],
+    shape: &Shape,
     slots: &mut [Frame<P::Place>],
     start: P::Place,
 ) -> Option<Link>
     requires one_byte_a_record { length marking.old.bytes.now ≡ length nodes.old }
     requires at_most_2048_records { length nodes.old ≤ 2048 }
-    requires narrow { Narrow counts.now }
-    requires at_most_eight_attributes { length counts.now ≤ 8 }
-    requires one_slot_an_attribute { length counts.now ≤ length slots.old }
+    requires one_slot_an_attribute { length (counts_of shape.now) ≤ length slots.old }
     ensures same_bytes { marking.new.bytes.ghost_name ≡ marking.old.bytes.ghost_name }
     ensures live_stays { LiveStays nodes.old marking.old.bytes.now nodes.new marking.new.bytes.now }
     ensures keeps_what_was_kept { (first : P) → P.Places.kept first places.old → P.Places.kept first places.new }
-    ensures builds_the_page { (k : ℕ) → Filled counts.now → Sound k counts.now nodes.old (Marked marking.old.bytes.now) → KeepWhileMemoryGrows (P.Places.stands places.old) (P.Places.says places.old) k counts.now → FillTheGrid (P.Places.stands places.old) (P.Places.says places.old) k counts.now → P.Places.stands places.old k counts.now nodes.old marking.old.bytes.now 0 start → Built k counts.now nodes.old (Marked marking.old.bytes.now) nodes.new (Marked marking.new.bytes.now) 0 (P.Places.says places.old counts.now nodes.old 0 start) result }
+    ensures builds_the_page { (k : ℕ) → Sound k (counts_of shape.now) nodes.old (Marked marking.old.bytes.now) → KeepWhileMemoryGrows (P.Places.stands places.old) (P.Places.says places.old) k (counts_of shape.now) → FillTheGrid (P.Places.stands places.old) (P.Places.says places.old) k (counts_of shape.now) → P.Places.stands places.old k (counts_of shape.now) nodes.old marking.old.bytes.now 0 start → Built k (counts_of shape.now) nodes.old (Marked marking.old.bytes.now) nodes.new (Marked marking.new.bytes.now) 0 (P.Places.says places.old (counts_of shape.now) nodes.old 0 start) result }
 {
+    let counts = shape.counts();
     let mut stack = Stack::new(slots);
     let mut turn = Turn::Open(0, start);
     'turns: loop {

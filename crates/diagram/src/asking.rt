@@ -8,20 +8,16 @@ use crate::{Link, Node};
 pub fn level_of(nodes: &[Node], number: u16) -> u8
     ensures { result ≡ (node nodes.now number).level }
 {
-    let i = usize::from(number);
-    if i < nodes.len() { nodes[i].level } else { 0 }
+    nodes.get(usize::from(number)).map_or(0, |node| node.level)
 }
 
 /// The link of a record at a cell; past the memory and past its branches it is not applicable.
 pub fn branch(nodes: &[Node], number: u16, cell: u8) -> Link
     ensures { result ≡ edge nodes.now number cell }
 {
-    let i = usize::from(number);
-    if i < nodes.len() {
-        nodes[i].branch(cell)
-    } else {
-        Link::Decision(0)
-    }
+    nodes
+        .get(usize::from(number))
+        .map_or(Link::Decision(0), |node| node.branch(cell))
 }
 
 /// Where a link at a level leads in a cell of that attribute.

@@ -1,7 +1,7 @@
 //! Node records of a reduced, shared decision diagram: what they mean, and how they are asked.
 #![tactic(auto)]
 
-ghost use Rattle.std.specs.Prelude.{◌≡◌, Decides};
+ghost use Rattle.std.specs.Prelude.{◌≡◌};
 ghost use Rattle.diagram.specs.Diagram.{decision, link};
 
 pub mod asking;
@@ -15,20 +15,13 @@ pub enum Link {
 }
 
 /// A node record: the attribute at which it branches, and a link for each cell. Those past the cells are `Decision(0)`.
-#[derive(Clone, Copy)]
+#[derive(Clone, Copy, PartialEq, Eq, Debug)]
 pub struct Node {
     pub level: u8,
     pub branches: [Link; 16],
 }
 
 impl Link {
-    /// Whether two links are the same.
-    pub fn same(self, other: Link) -> bool
-        ensures { Decides result (self ≡ other) }
-    {
-        self == other
-    }
-
     /// The decision of a link past the last attribute; a record there is not applicable.
     pub fn decision(self) -> u8
         ensures { result ≡ decision self }
@@ -45,10 +38,9 @@ impl Node {
     pub fn branch(&self, cell: u8) -> Link
         ensures { result ≡ link self.now cell }
     {
-        if cell < 16 {
-            self.branches[usize::from(cell)]
-        } else {
-            Link::Decision(0)
-        }
+        self.branches
+            .get(usize::from(cell))
+            .copied()
+            .unwrap_or(Link::Decision(0))
     }
 }

@@ -10,10 +10,9 @@ ghost use Rattle.making.specs.Spans.{decisions_at};
 use crate::calls::{combine, import};
 use crate::operator::Operator;
 use algebra::Algebra;
+use beside::Memory;
 use diagram::asking::decide;
-use diagram::{Link, Node};
 use policy::source::Source;
-use vocabulary::record::Shape;
 
 /// What an operator gives for what two sources decide at cells, by way of policies that are made for it.
 /// It succeeds wherever the records suffice for both policies and what is made of them.
@@ -22,19 +21,18 @@ pub fn combined_at<A: Algebra, S: Source, T: Source>(
     operator: Operator,
     first: &mut S,
     second: &mut T,
-    nodes: &mut [Node],
-    bytes: &mut [u8],
-    shape: &Shape,
+    memory: &mut Memory,
     cells: &[u8],
 ) -> Option<u8>
-    requires one_byte_a_record { length bytes.old ≡ length nodes.old }
-    requires at_most_2048_records { length nodes.old ≤ 2048 }
-    ensures bytes_are_cleared { bytes.new ≡ replicate (length bytes.old) 0 }
-    ensures decides_by_the_operator { ((g : ℕ) → (S.Source.meaning first.old).decision g < (A.Algebra.tables algebra.now).size) → ((g : ℕ) → (T.Source.meaning second.old).decision g < (A.Algebra.tables algebra.now).size) → size (counts_of shape.now) (combined (operator_of operator (A.Algebra.tables algebra.now)) (decisions_at (S.Source.meaning first.old).decision (grid (counts_of shape.now)) 0) (decisions_at (T.Source.meaning second.old).decision (grid (counts_of shape.now)) 0) ∷ decisions_at (T.Source.meaning second.old).decision (grid (counts_of shape.now)) 0 ∷ decisions_at (S.Source.meaning first.old).decision (grid (counts_of shape.now)) 0 ∷ []) ≤ length nodes.old → Cells (counts_of shape.now) cells.now → result ≡ Some (operator_of operator (A.Algebra.tables algebra.now) ((S.Source.meaning first.old).decision (number (counts_of shape.now) cells.now)) ((T.Source.meaning second.old).decision (number (counts_of shape.now) cells.now))) }
+    ensures same_nodes { memory.new.nodes.ghost_name ≡ memory.old.nodes.ghost_name }
+    ensures same_bytes { memory.new.bytes.ghost_name ≡ memory.old.bytes.ghost_name }
+    ensures same_shape { memory.new.shape.now ≡ memory.old.shape.now }
+    ensures bytes_are_cleared { memory.new.bytes.now ≡ replicate (length memory.old.bytes.now) 0 }
+    ensures decides_by_the_operator { ((g : ℕ) → (S.Source.meaning first.old).decision g < (A.Algebra.tables algebra.now).size) → ((g : ℕ) → (T.Source.meaning second.old).decision g < (A.Algebra.tables algebra.now).size) → size (counts_of memory.old.shape.now) (combined (operator_of operator (A.Algebra.tables algebra.now)) (decisions_at (S.Source.meaning first.old).decision (grid (counts_of memory.old.shape.now)) 0) (decisions_at (T.Source.meaning second.old).decision (grid (counts_of memory.old.shape.now)) 0) ∷ decisions_at (T.Source.meaning second.old).decision (grid (counts_of memory.old.shape.now)) 0 ∷ decisions_at (S.Source.meaning first.old).decision (grid (counts_of memory.old.shape.now)) 0 ∷ []) ≤ length memory.old.nodes.now → Cells (counts_of memory.old.shape.now) cells.now → result ≡ Some (operator_of operator (A.Algebra.tables algebra.now) ((S.Source.meaning first.old).decision (number (counts_of memory.old.shape.now) cells.now)) ((T.Source.meaning second.old).decision (number (counts_of memory.old.shape.now) cells.now))) }
 {
-    let left = import(first, nodes, bytes, shape, &[])?;
-    let right = import(second, nodes, bytes, shape, &[Some(left)])?;
+    let left = import(first, memory, &[])?;
+    let right = import(second, memory, &[Some(left)])?;
     let both = [Some(right), Some(left)];
-    let root = combine(algebra, operator, left, right, nodes, bytes, shape, &both)?;
-    Some(decide(nodes, root, cells))
+    let root = combine(algebra, operator, left, right, memory, &both)?;
+    Some(decide(memory.nodes, root, cells))
 }

@@ -4,9 +4,9 @@ ghost use Rattle.making.specs.Negations.{negation_stands, negation_says};
 
 use crate::levels::branches_within;
 use algebra::Algebra;
+use diagram::Link;
 use diagram::asking::{level_of, next};
-use diagram::{Link, Node};
-use places::{Places, Seen};
+use places::{Level, Places, Seen};
 
 /// The links whose pages are negated in an algebra.
 #[derive(Drop)]
@@ -23,14 +23,14 @@ impl<'a, A: Algebra> Places for Negated<'a, A> {
 
     ghost kept = { λ first last. last ≡ first };
 
-    fn look(&mut self, nodes: &[Node], counts: &[u8], level: u8, place: Link) -> Seen {
+    fn look(&mut self, level: &Level, place: Link) -> Seen {
         match place {
             Link::Decision(d) => Seen::Settled(Link::Decision(self.algebra.negation(d))),
-            Link::Record(r) => branches_within(counts, level, level_of(nodes, r)),
+            Link::Record(r) => branches_within(level, level_of(level.nodes, r)),
         }
     }
 
-    fn child(&self, nodes: &[Node], counts: &[u8], level: u8, place: Link, cell: u8) -> Link {
-        next(nodes, level as usize, place, cell)
+    fn child(&self, level: &Level, place: Link, cell: u8) -> Link {
+        next(level.nodes, level.number as usize, place, cell)
     }
 }

@@ -9,7 +9,7 @@ use crate::operator::Operator;
 use algebra::Algebra;
 use diagram::asking::{level_of, next};
 use diagram::{Link, Node};
-use places::{Places, Seen};
+use places::{Level, Places, Seen};
 
 /// Two links, of whose pages an operator makes one.
 #[derive(Clone, Copy)]
@@ -37,13 +37,13 @@ fn settled<A: Algebra>(algebra: &A, operator: Operator, pair: Pair) -> Option<Li
     ensures { SettledAs (A.Algebra.tables algebra.now) operator pair result }
 {
     let Pair { left, right } = pair;
-    if left.same(right) {
+    if left == right {
         return Some(kept(operator.keeps_same(), left));
     }
-    if left.same(Link::Decision(0)) {
+    if left == Link::Decision(0) {
         return Some(kept(operator.keeps_right(), right));
     }
-    if right.same(Link::Decision(0)) {
+    if right == Link::Decision(0) {
         return Some(kept(operator.keeps_left(), left));
     }
     match (left, right) {
@@ -68,13 +68,13 @@ fn first_level(nodes: &[Node], pair: Pair) -> u8
 
 impl<'a, A: Algebra> Pairs<'a, A> {
     /// What is seen of a pair at a level; on sound memory it is settled just where it is settled at once.
-    pub fn see(&self, nodes: &[Node], counts: &[u8], level: u8, pair: Pair) -> Seen
-        ensures seen_as_it_is { SeenAs (pair_stands (A.Algebra.tables self.now.algebra.now)) (pair_says self.now.operator (A.Algebra.tables self.now.algebra.now)) counts.now nodes.now level pair result }
-        ensures settled_just_at_once { SettledJustAtOnce (A.Algebra.tables self.now.algebra.now) counts.now nodes.now level pair result }
+    pub fn see(&self, level: &Level, pair: Pair) -> Seen
+        ensures seen_as_it_is { SeenAs (pair_stands (A.Algebra.tables self.now.algebra.now)) (pair_says self.now.operator (A.Algebra.tables self.now.algebra.now)) level.now.counts.now level.now.nodes.now level.now.number pair result }
+        ensures settled_just_at_once { SettledJustAtOnce (A.Algebra.tables self.now.algebra.now) level.now.counts.now level.now.nodes.now level.now.number pair result }
     {
         match settled(self.algebra, self.operator, pair) {
             Some(link) => Seen::Settled(link),
-            None => branches_within(counts, level, first_level(nodes, pair)),
+            None => branches_within(level, first_level(level.nodes, pair)),
         }
     }
 }
@@ -88,15 +88,15 @@ impl<'a, A: Algebra> Places for Pairs<'a, A> {
 
     ghost kept = { λ first last. last ≡ first };
 
-    fn look(&mut self, nodes: &[Node], counts: &[u8], level: u8, place: Pair) -> Seen {
-        self.see(nodes, counts, level, place)
+    fn look(&mut self, level: &Level, place: Pair) -> Seen {
+        self.see(level, place)
     }
 
-    fn child(&self, nodes: &[Node], counts: &[u8], level: u8, place: Pair, cell: u8) -> Pair {
-        let level = level as usize;
+    fn child(&self, level: &Level, place: Pair, cell: u8) -> Pair {
+        let number = level.number as usize;
         Pair {
-            left: next(nodes, level, place.left, cell),
-            right: next(nodes, level, place.right, cell),
+            left: next(level.nodes, number, place.left, cell),
+            right: next(level.nodes, number, place.right, cell),
         }
     }
 }

@@ -3,10 +3,9 @@ ghost use Rattle.std.specs.Prelude.{◌≡◌, if◌then◌else◌, slice_index}
 ghost use Rattle.pages.specs.Projection.{has_bit};
 ghost use Rattle.making.specs.Projections.{projection_stands, projection_says, stands_at, LeavesOut, FirstBranch};
 
-use crate::levels::cells;
 use diagram::asking::{level_of, next};
 use diagram::{Link, Node};
-use places::{Places, Seen};
+use places::{Level, Places, Seen};
 
 /// The links whose pages are projected: a mask for each attribute and one for decisions, in which bit c stands for cell or code c.
 #[derive(Drop)]
@@ -35,41 +34,36 @@ fn leaves_out(mask: u16, cells: u8) -> bool
 }
 
 /// Whether the record of a link stands at a level.
-fn stands_at(nodes: &[Node], level: u8, link: Link) -> bool
+fn stands_at(nodes: &[Node], level: usize, link: Link) -> bool
     ensures { result ≡ stands_at nodes.now level link }
 {
     match link {
         Link::Decision(_) => false,
-        Link::Record(r) => level_of(nodes, r) == level,
+        Link::Record(r) => usize::from(level_of(nodes, r)) == level,
     }
 }
 
 impl<'a> Projected<'a> {
     /// The mask of the attribute at a level; where there is none it has no bit.
-    fn mask(&self, level: u8) -> u16
+    fn mask(&self, level: usize) -> u16
         ensures { result ≡ slice_index self.now.masks.now level }
     {
-        let level = level as usize;
-        if level < self.masks.len() {
-            self.masks[level]
-        } else {
-            0
-        }
+        self.masks.get(level).copied().unwrap_or(0)
     }
 
     /// The first level, from one on, at which the link's record stands or a cell is left out.
-    fn first_branch(&self, nodes: &[Node], counts: &[u8], level: u8, link: Link) -> Option<u8>
-        ensures { FirstBranch self.now.masks.now counts.now nodes.now level link result }
+    /// One past 255 is answered as 255, up to which the link is passed on too.
+    fn first_branch(&self, level: &Level, link: Link) -> Option<u8>
+        ensures { FirstBranch self.now.masks.now level.now.counts.now level.now.nodes.now level.now.number link result }
     {
-        for at in level..255 {
-            if usize::from(at) >= counts.len() {
-                return None;
-            }
-            if stands_at(nodes, at, link) || leaves_out(self.mask(at), cells(counts, at)) {
-                return Some(at);
+        for (at, cells) in level.counts.iter().enumerate() {
+            if at >= level.number as usize
+                && (stands_at(level.nodes, at, link) || leaves_out(self.mask(at), *cells))
+            {
+                return Some(u8::try_from(at).unwrap_or(u8::MAX));
             }
         }
-        if counts.len() > 255 { Some(255) } else { None }
+        None
     }
 }
 
@@ -82,19 +76,20 @@ impl<'a> Places for Projected<'a> {
 
     ghost kept = { λ first last. last ≡ first };
 
-    fn look(&mut self, nodes: &[Node], counts: &[u8], level: u8, place: Link) -> Seen {
-        if place.same(Link::Decision(0)) {
+    fn look(&mut self, level: &Level, place: Link) -> Seen {
+        if place == Link::Decision(0) {
             return Seen::Settled(place);
         }
-        match self.first_branch(nodes, counts, level, place) {
+        match self.first_branch(level, place) {
             Some(at) => Seen::Branches(at),
             None => Seen::Settled(Link::Decision(kept(self.decisions, place.decision()))),
         }
     }
 
-    fn child(&self, nodes: &[Node], counts: &[u8], level: u8, place: Link, cell: u8) -> Link {
-        if has_bit(self.mask(level), cell) {
-            next(nodes, level as usize, place, cell)
+    fn child(&self, level: &Level, place: Link, cell: u8) -> Link {
+        let number = level.number as usize;
+        if has_bit(self.mask(number), cell) {
+            next(level.nodes, number, place, cell)
         } else {
             Link::Decision(0)
         }

@@ -2,9 +2,8 @@
 ghost use Rattle.std.specs.Prelude.{◌≡◌, ℕ, ◌+◌, ◌*◌, ◌^◌, ◌<◌};
 ghost use Rattle.making.specs.Spans.{span_stands, span_says};
 
-use crate::levels::cells;
-use diagram::{Link, Node};
-use places::{Places, Seen};
+use diagram::Link;
+use places::{Level, Places, Seen};
 use policy::source::Source;
 
 /// The grid numbers of a part: the first one, and how many there are.
@@ -24,11 +23,7 @@ pub struct Sourced<'a, S> {
 fn share(count: u32, cells: u8) -> u32
     ensures { (each : ℕ) → 0 < cells → count ≡ cells * each → result ≡ each }
 {
-    if cells == 0 {
-        0
-    } else {
-        count / (cells as u32)
-    }
+    count.checked_div(u32::from(cells)).unwrap_or(0)
 }
 
 /// The grid number so many cells further on; 0 where a number cannot be so large.
@@ -36,12 +31,10 @@ fn along(first: u32, cell: u8, each: u32) -> u32
     requires { cell < 16 }
     ensures { first + cell * each < 2 ^ 32 → result ≡ first + cell * each }
 {
-    let number = first as u64 + cell as u64 * each as u64;
-    if number < 4294967296 {
-        number as u32
-    } else {
-        0
-    }
+    u32::from(cell)
+        .checked_mul(each)
+        .and_then(|further| first.checked_add(further))
+        .unwrap_or(0)
 }
 
 impl<'a, S: Source> Places for Sourced<'a, S> {
@@ -53,16 +46,16 @@ impl<'a, S: Source> Places for Sourced<'a, S> {
 
     ghost kept = { λ first last. (last.source.ghost_name ≡ first.source.ghost_name) × (S.Source.meaning last.source.now ≡ S.Source.meaning first.source.now) };
 
-    fn look(&mut self, nodes: &[Node], counts: &[u8], level: u8, place: Span) -> Seen {
-        if (level as usize) < counts.len() {
-            Seen::Branches(level)
+    fn look(&mut self, level: &Level, place: Span) -> Seen {
+        if (level.number as usize) < level.counts.len() {
+            Seen::Branches(level.number)
         } else {
             Seen::Settled(Link::Decision(self.source.consult(place.first as usize)))
         }
     }
 
-    fn child(&self, nodes: &[Node], counts: &[u8], level: u8, place: Span, cell: u8) -> Span {
-        let count = share(place.count, cells(counts, level));
+    fn child(&self, level: &Level, place: Span, cell: u8) -> Span {
+        let count = share(place.count, level.cells());
         let first = along(place.first, cell, count);
         Span { first, count }
     }

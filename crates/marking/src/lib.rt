@@ -1,7 +1,7 @@
 //! Which node records are live: a marking over bytes that are lent, one a record, cleared when it ends.
 #![tactic(auto)]
 
-ghost use Rattle.std.specs.Prelude.{◌≡◌, ℕ, ◌<◌, length, replicate, MatchOption, ◌==◌, slice_index, slice_set};
+ghost use Rattle.std.specs.Prelude.{◌≡◌, ℕ, ◌<◌, length, replicate, MatchOption, ◌==◌, count_by, slice_index, slice_set};
 ghost use Rattle.marking.specs.Marks.{Marked, tally};
 
 /// A record is live while its byte is 1; a record past the bytes never is.
@@ -33,11 +33,7 @@ impl<'a> Marking<'a> {
     pub fn is_marked(&self, number: usize) -> bool
         ensures { result ≡ (slice_index self.now.bytes.now number == 1) }
     {
-        if number < self.bytes.len() {
-            self.bytes[number] == 1
-        } else {
-            false
-        }
+        self.bytes.get(number).is_some_and(|byte| *byte == 1)
     }
 
     /// A record becomes live; past the bytes nothing is marked.
@@ -54,24 +50,20 @@ impl<'a> Marking<'a> {
     pub fn vacant(&self) -> Option<usize>
         ensures { MatchOption result ((i : ℕ) → i < length self.now.bytes.now → Marked self.now.bytes.now i) (λ i. (i < length self.now.bytes.now) × (Marked self.now.bytes.now i → ⊥)) }
     {
-        for (i, byte) in self.bytes.iter().enumerate() {
-            if *byte != 1 {
-                return Some(i);
-            }
-        }
-        None
+        self.bytes.iter().position(|byte| *byte != 1)
     }
 
     /// How many records are live.
     pub fn count(&self) -> usize
         ensures { result ≡ tally (length self.now.bytes.now) self.now.bytes.now }
     {
-        let mut live = 0;
-        for number in 0..self.bytes.len() {
-            if self.is_marked(number) {
-                live += 1;
-            }
-        }
-        live
+        ones(self.bytes)
     }
+}
+
+/// How many bytes are 1.
+fn ones(bytes: &[u8]) -> usize
+    ensures { result ≡ count_by (λ byte. byte == 1) bytes.now }
+{
+    bytes.iter().filter(|byte| **byte == 1).count()
 }

@@ -69,8 +69,8 @@ fn sweep(marking: &mut Marking, nodes: &[Node], level: usize, cells: u8)
     ensures marks_stay { StaysMarked marking.old.bytes.now marking.new.bytes.now }
     ensures one_level_more_is_closed { (k : ℕ) (shape : List ℕ) (roots : List Links) → SoundRoots k shape nodes.now roots → length marking.old.bytes.now ≡ length nodes.now → cells ≡ slice_index shape level → ClosedBelow shape nodes.now roots marking.old.bytes.now level → ClosedBelow shape nodes.now roots marking.new.bytes.now (suc level) }
 {
-    for number in 0..nodes.len() {
-        sweep_one(marking, &nodes[number], number, level, cells);
+    for (number, node) in nodes.iter().enumerate() {
+        sweep_one(marking, node, number, level, cells);
     }
 }
 

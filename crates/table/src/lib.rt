@@ -24,7 +24,7 @@ fn alike(a: &Node, b: &Node) -> bool
         return false;
     }
     for c in 0..16 {
-        if !a.branch(c).same(b.branch(c)) {
+        if a.branch(c) != b.branch(c) {
             return false;
         }
     }
@@ -36,9 +36,9 @@ fn find(nodes: &[Node], marking: &Marking, wanted: &Node) -> Option<usize>
     requires { length marking.now.bytes.now ≡ length nodes.now }
     ensures { MatchOption result (NoneIsAlike nodes.now marking.now.bytes.now wanted.now) (λ s. (s < length nodes.now) × Marked marking.now.bytes.now s × Alike (node nodes.now s) wanted.now) }
 {
-    for i in 0..nodes.len() {
-        if marking.is_marked(i) && alike(&nodes[i], wanted) {
-            return Some(i);
+    for (number, node) in nodes.iter().enumerate() {
+        if marking.is_marked(number) && alike(node, wanted) {
+            return Some(number);
         }
     }
     None
@@ -79,12 +79,9 @@ fn one_differs(branches: &[Link; 16], cells: u8) -> bool
     ensures true_where_one_differs { result ≡ true → OneDiffers cells branches.now }
     ensures false_where_all_are_the_same { result ≡ false → AllTheSame cells branches.now }
 {
-    for c in 0..usize::from(cells) {
-        if !branches[c].same(branches[0]) {
-            return true;
-        }
-    }
-    false
+    branches[..usize::from(cells)]
+        .iter()
+        .any(|branch| *branch != branches[0])
 }
 
 /// A link to the record with these branches, two of which differ: it is found or made.

@@ -5,7 +5,7 @@ use Rattle.table.proofs.Storing.{unwritten, reduced_stays}
 use Rattle.building.specs.Work.{frames, waiting_work}
 use Rattle.building.specs.Walk.{Opening, Handing}
 use Rattle.building.proofs.Measuring.{cell_falls}
-use Rattle.building.proofs.Stacking.{frames_onto}
+use Rattle.building.proofs.Stacking.{frames_onto, frames_popped}
 use Rattle.building.proofs.Walking.{at_a_cell, goes_on, hands_on, lacks}
 use Rattle.building.proofs.up.Goals as goal
 
@@ -20,10 +20,9 @@ overflow_add-result g c =
 
 pub returns-then-frame-n : goal.returns-then-frame-n
 returns-then-frame-n g c =
-    let popped = c.in-Some.ensures.popped_or_empty in
     let fs = frames c.pop.new.self.slots.now c.pop.new.self.len in
     let e : frames c.args.stack.now.slots.now c.args.stack.now.len ≡ c.in-Some.frame ∷ fs =
-    frames_onto _ _ c.in-Some.frame popped.x_is_newest ∙ ap (λ slots. c.in-Some.frame ∷ frames slots c.pop.new.self.len) (sym c.pop.ensures.no_slot_written)
+    frames_popped _ _ _ _ _ c.in-Some.ensures.popped_or_empty c.pop.ensures.no_slot_written
     in
     record {
       same_slots = c.pop.ensures.same_slots;
@@ -42,10 +41,9 @@ returns-then-frame-n g c =
 
 pub returns-in-Ok : goal.returns-in-Ok
 returns-in-Ok g c =
-    let popped = c.in-Some.ensures.popped_or_empty in
     let fs = frames c.pop.new.self.slots.now c.pop.new.self.len in
     let e : frames c.args.stack.now.slots.now c.args.stack.now.len ≡ c.in-Some.frame ∷ fs =
-    frames_onto _ _ c.in-Some.frame popped.x_is_newest ∙ ap (λ slots. c.in-Some.frame ∷ frames slots c.pop.new.self.len) (sym c.pop.ensures.no_slot_written)
+    frames_popped _ _ _ _ _ c.in-Some.ensures.popped_or_empty c.pop.ensures.no_slot_written
     in
     let pushed = c.in-Ok.ensures.pushed_or_full in
     let e' = frames_onto _ _ _ pushed.x_is_newest in
@@ -70,10 +68,9 @@ returns-in-Ok g c =
 
 pub returns-in-Some-reduce : goal.returns-in-Some-reduce
 returns-in-Some-reduce g c =
-    let popped = c.in-Some.ensures.popped_or_empty in
     let fs = frames c.pop.new.self.slots.now c.pop.new.self.len in
     let e : frames c.args.stack.now.slots.now c.args.stack.now.len ≡ c.in-Some.frame ∷ fs =
-    frames_onto _ _ c.in-Some.frame popped.x_is_newest ∙ ap (λ slots. c.in-Some.frame ∷ frames slots c.pop.new.self.len) (sym c.pop.ensures.no_slot_written)
+    frames_popped _ _ _ _ _ c.in-Some.ensures.popped_or_empty c.pop.ensures.no_slot_written
     in
     record {
       same_slots = c.pop.ensures.same_slots;
@@ -90,10 +87,9 @@ returns-in-Some-reduce g c =
 
 pub returns-in-None : goal.returns-in-None
 returns-in-None g c =
-    let popped = c.in-Some.ensures.popped_or_empty in
     let fs = frames c.pop.new.self.slots.now c.pop.new.self.len in
     let e : frames c.args.stack.now.slots.now c.args.stack.now.len ≡ c.in-Some.frame ∷ fs =
-    frames_onto _ _ c.in-Some.frame popped.x_is_newest ∙ ap (λ slots. c.in-Some.frame ∷ frames slots c.pop.new.self.len) (sym c.pop.ensures.no_slot_written)
+    frames_popped _ _ _ _ _ c.in-Some.ensures.popped_or_empty c.pop.ensures.no_slot_written
     in
     record {
       same_slots = c.pop.ensures.same_slots;

@@ -4,5 +4,5 @@ use Rattle.diagram.specs.Diagram.{node}
 use Rattle.diagram.specs.Sound.{Alike}
 use Rattle.table.proofs.find.Given as goal
 
-abbrev pub invariant-loop-i : goal.invariant-loop-i
-invariant-loop-i l = (s : ℕ) → s < l.i → Marked l.marking.bytes.now s → Alike (node l.nodes s) l.wanted → ⊥
+abbrev pub invariant-loop-number : goal.invariant-loop-number
+invariant-loop-number l = (s : ℕ) → s < l.number → Marked l.marking.bytes.now s → Alike (node l.nodes s) l.wanted → ⊥

@@ -7,11 +7,14 @@ use Rattle.making.proofs.calls.import.Goals as goal
 pub returns : goal.returns
 returns g c =
     let m = g.S.Source.meaning c.args.source.now in
-    let counts = counts_of c.args.shape.now in
+    let counts = counts_of c.args.memory.now.shape.now in
     let back = carried g.S.Source.meaning c.make_beside.new.places _ c.args.source.now c.make_beside.ensures.keeps_what_was_kept in
     let same = back.0 in
     let stays = back.1 in
     record {
+      same_nodes = c.make_beside.ensures.same_nodes;
+      same_bytes = c.make_beside.ensures.same_bytes;
+      same_shape = c.make_beside.ensures.same_shape;
       bytes_are_cleared = c.make_beside.ensures.bytes_are_cleared;
       meaning_stays = ap g.S.Source.meaning (search rules) ∙ stays;
       made_beside_the_roots = λ k sound codes.

@@ -9,10 +9,13 @@ use Rattle.making.proofs.calls.negate.Goals as goal
 pub returns : goal.returns
 returns g c =
     let t = g.A.Algebra.tables c.args.algebra.now in
-    let shape = c.args.shape.now in
+    let shape = c.args.memory.now.shape.now in
     record {
+      same_nodes = c.make_beside.ensures.same_nodes;
+      same_bytes = c.make_beside.ensures.same_bytes;
+      same_shape = c.make_beside.ensures.same_shape;
       bytes_are_cleared = c.make_beside.ensures.bytes_are_cleared;
       made_beside_the_roots = λ sound fits.
           c.make_beside.ensures.made_beside_the_roots t.size sound (negations_keep t t.size (counts_of shape)) (negations_fill t t.size (counts_of shape))
-          (λ marks closed. record { codes_of_the_algebra = refl; link_fits = fits_marked t.size (counts_of shape) c.args.nodes.now (roots_in c.args.roots.now) marks (counts_are_filled shape) sound closed c.args.link fits });
+          (λ marks closed. record { codes_of_the_algebra = refl; link_fits = fits_marked t.size (counts_of shape) c.args.memory.now.nodes.now (roots_in c.args.roots.now) marks (counts_are_filled shape) sound closed c.args.link fits });
     }

@@ -1,22 +1,21 @@
-use Rattle.std.proofs.Common.{◌≡◌, ℕ, suc, ◌+◌, Bool, cond, sym, ap, ◌∙◌, add-one, arith}
+use Rattle.std.proofs.Common.{◌≡◌, ℕ, zero, suc, ◌+◌, ◌≤◌, Bool, true, false, cond, eqb, List, length, get_or, take, sym, refl, ap, ◌∙◌, add-one, arith}
+use Rattle.std.specs.List.{count_by}
+use Rattle.std.proofs.Math.Seq.{take-length}
+use Rattle.std.proofs.lemmas.List.Sums.{count_by_more_yes, count_by_more_no}
 use Rattle.marking.specs.Marks.{tally}
 use Rattle.marking.proofs.Marking.count.Goals as goal
-use Rattle.marking.proofs.Marking.count.Goals.{then-is_marked, else-is_marked}
 
-pub loop-number-preserved : goal.loop-number-preserved
-loop-number-preserved c =
+-- the tally of the first n bytes counts those of them that are 1
+counted : (n : ℕ) (marks : List ℕ) → n ≤ length marks → count_by (λ b. eqb b 1) (take n marks) ≡ tally n marks
+counted zero marks h = refl
+counted (suc n) marks h =
+    ap (λ (i : ℕ). count_by (λ b. eqb b 1) (take i marks)) (sym (add-one n)) ∙ one (counted n marks (omega arith)) (eqb (get_or marks n 0) 1) refl
+  where
+    one : count_by (λ b. eqb b 1) (take n marks) ≡ tally n marks → (b : Bool) → eqb (get_or marks n 0) 1 ≡ b → count_by (λ b. eqb b 1) (take (n + 1) marks) ≡ cond b (suc (tally n marks)) (tally n marks)
+    one before true e = count_by_more_yes (λ b. eqb b 1) marks n 0 (omega arith) e ∙ add-one _ ∙ ap suc before
+    one before false e = count_by_more_no (λ b. eqb b 1) marks n 0 (omega arith) e ∙ before
+
+pub returns : goal.returns
+returns c =
     let marks = c.args.self.now.bytes.now in
-    let n = c.loop-number.number in
-    let more : tally (n + 1) marks ≡ cond c.is_marked.result (suc (tally n marks)) (tally n marks) =
-    ap (λ (m : ℕ). tally m marks) (add-one n) ∙ ap (λ (b : Bool). cond b (suc (tally n marks)) (tally n marks)) (sym c.is_marked.ensures)
-    in
-    elim c.if-is_marked.branch [
-      | then-is_marked w ↦ (
-        w.live-is ∙ add-one _ ∙ ap suc c.loop-number.invariant.0 ∙ sym (more ∙ ap (λ (b : Bool). cond b (suc (tally n marks)) (tally n marks)) w.if-is_marked.true),
-        omega (arith, w.live-is),
-      )
-      | else-is_marked w ↦ (
-        w.live-is ∙ c.loop-number.invariant.0 ∙ sym (more ∙ ap (λ (b : Bool). cond b (suc (tally n marks)) (tally n marks)) w.if-is_marked.false),
-        omega (arith, w.live-is),
-      )
-    ]
+    c.ones.ensures ∙ ap (count_by (λ b. eqb b 1)) (sym (take-length marks)) ∙ counted (length marks) marks (omega arith)

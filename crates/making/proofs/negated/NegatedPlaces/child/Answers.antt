@@ -6,5 +6,5 @@ returns g c =
     record {
       leads_to_the_cell =
           λ k marks.
-          negations_lead (g.A.Algebra.tables c.args.self.now.algebra.now) k c.args.counts.now c.args.nodes.now marks c.args.level c.args.place c.args.cell c.next.result c.next.ensures;
+          negations_lead (g.A.Algebra.tables c.args.self.now.algebra.now) k c.args.level.now.counts.now c.args.level.now.nodes.now marks c.args.level.now.number c.args.place c.args.cell c.next.result c.next.ensures;
     }

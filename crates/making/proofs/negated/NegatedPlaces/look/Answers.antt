@@ -12,7 +12,7 @@ returns-in-Decision g c =
       keeps_what_was_kept = λ first h. h;
       seen_as_it_is =
           λ k marks.
-          negations_settle t k c.args.counts.now c.args.nodes.now marks c.args.level c.args.place laws c.in-Decision.d c.negation.result c.in-Decision.is c.negation.ensures;
+          negations_settle t k c.args.level.now.counts.now c.args.level.now.nodes.now marks c.args.level.now.number c.args.place laws c.in-Decision.d c.negation.result c.in-Decision.is c.negation.ensures;
     }
 
 pub returns-in-Record : goal.returns-in-Record
@@ -22,6 +22,6 @@ returns-in-Record g c =
       same_places = same_places (negation_stands t) (negation_says t);
       keeps_what_was_kept = λ first h. h;
       seen_as_it_is =
-          negations_branch t c.args.counts.now c.args.nodes.now c.args.level c.args.place c.in-Record.r c.level_of.result c.in-Record.is c.level_of.ensures
+          negations_branch t c.args.level.now.counts.now c.args.level.now.nodes.now c.args.level.now.number c.args.place c.in-Record.r c.level_of.result c.in-Record.is c.level_of.ensures
           c.branches_within.result c.branches_within.ensures;
     }

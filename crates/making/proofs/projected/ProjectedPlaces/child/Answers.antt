@@ -9,10 +9,10 @@ returns-then-has_bit c =
     record {
       leads_to_the_cell =
           λ k marks.
-          projections_lead c.args.self.now.masks.now c.args.self.now.decisions k c.args.counts.now c.args.nodes.now marks c.args.level c.args.place c.args.cell c.next.result
+          projections_lead c.args.self.now.masks.now c.args.self.now.decisions k c.args.level.now.counts.now c.args.level.now.nodes.now marks c.args.level.now.number c.args.place c.args.cell c.next.result
           (c.next.ensures
-          ∙ ap (λ b. cond b (next c.args.nodes.now c.args.level c.args.place c.args.cell) (Decision 0)) c.if-has_bit.ensures
-          ∙ ap (λ (m : ℕ). child_of c.args.nodes.now m c.args.level c.args.place c.args.cell) c.mask.ensures);
+          ∙ ap (λ b. cond b (next c.args.level.now.nodes.now c.args.level.now.number c.args.place c.args.cell) (Decision 0)) c.if-has_bit.ensures
+          ∙ ap (λ (m : ℕ). child_of c.args.level.now.nodes.now m c.args.level.now.number c.args.place c.args.cell) c.mask.ensures);
     }
 
 pub returns-else-has_bit : goal.returns-else-has_bit
@@ -20,7 +20,7 @@ returns-else-has_bit c =
     record {
       leads_to_the_cell =
           λ k marks.
-          projections_lead c.args.self.now.masks.now c.args.self.now.decisions k c.args.counts.now c.args.nodes.now marks c.args.level c.args.place c.args.cell (Decision 0)
-          (ap (λ b. cond b (next c.args.nodes.now c.args.level c.args.place c.args.cell) (Decision 0)) c.if-has_bit.ensures
-          ∙ ap (λ (m : ℕ). child_of c.args.nodes.now m c.args.level c.args.place c.args.cell) c.mask.ensures);
+          projections_lead c.args.self.now.masks.now c.args.self.now.decisions k c.args.level.now.counts.now c.args.level.now.nodes.now marks c.args.level.now.number c.args.place c.args.cell (Decision 0)
+          (ap (λ b. cond b (next c.args.level.now.nodes.now c.args.level.now.number c.args.place c.args.cell) (Decision 0)) c.if-has_bit.ensures
+          ∙ ap (λ (m : ℕ). child_of c.args.level.now.nodes.now m c.args.level.now.number c.args.place c.args.cell) c.mask.ensures);
     }
