@@ -1,7 +1,7 @@
 use Rattle.std.proofs.Common.{◌≡◌, ℕ, length, replicate, refl, ap, ◌∙◌, subst, arith, rules}
 use Rattle.std.proofs.lemmas.List.{length-replicate}
 use Rattle.vocabulary.specs.Record.{counts_of}
-use Rattle.vocabulary.proofs.Walked.{how_many_counts, counts_are_filled}
+use Rattle.vocabulary.proofs.Walked.{counts_are_few, counts_are_filled}
 use Rattle.diagram.specs.Marks.{Closed}
 use Rattle.reaching.specs.Roots.{roots_in, SoundRoots}
 use Rattle.beside.proofs.Upholding.{walked_beside}
@@ -16,7 +16,7 @@ build-requires g c =
     record {
       one_byte_a_record = many;
       at_most_2048_records = memory.at_most_2048_records;
-      one_slot_an_attribute = omega (arith, how_many_counts memory.shape.now, memory.shape.now.few, c.requires);
+      one_slot_an_attribute = omega (arith, counts_are_few memory.shape.now, c.requires);
     }
 
 pub returns : goal.returns
