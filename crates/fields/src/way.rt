@@ -2,6 +2,9 @@
 ghost use Rattle.std.specs.Prelude.{ℕ};
 ghost use Rattle.fields.specs.Ways.{HasWay};
 
+use std::error::Error;
+use std::fmt;
+
 /// How the decisions of the rules that match are combined: a sheet names it by a number from 1 to 4.
 #[derive(Clone, Copy, PartialEq, Eq, Debug)]
 pub enum Way {
@@ -18,6 +21,14 @@ pub enum Way {
 /// No way has this number.
 #[derive(Clone, Copy, PartialEq, Eq, Debug)]
 pub struct NoSuchWay;
+
+impl fmt::Display for NoSuchWay {
+    fn fmt<W: fmt::Write>(&self, f: &mut fmt::Formatter<W>) -> fmt::Result {
+        f.write_str("no way to combine has this number")
+    }
+}
+
+impl Error for NoSuchWay {}
 
 impl TryFrom<u8> for Way {
     type Error = NoSuchWay;

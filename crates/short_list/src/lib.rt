@@ -4,10 +4,20 @@
 ghost use Rattle.std.specs.Prelude.{◌≤◌, length};
 
 use std::alloc::AllocError;
+use std::error::Error;
+use std::fmt;
 
 /// There is an item in each place.
 #[derive(Clone, Copy, PartialEq, Eq, Debug)]
 pub struct Full;
+
+impl fmt::Display for Full {
+    fn fmt<W: fmt::Write>(&self, f: &mut fmt::Formatter<W>) -> fmt::Result {
+        f.write_str("there is an item in each place")
+    }
+}
+
+impl Error for Full {}
 
 /// Up to `N` items in the first places; what the others hold does not matter.
 pub struct ShortList<T, const N: usize> {
