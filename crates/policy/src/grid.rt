@@ -10,7 +10,7 @@ use vocabulary::record::Shape;
 mod reading;
 
 /// Room for the largest grid.
-const LARGEST_GRID: usize = 4096;
+pub const LARGEST_GRID: usize = 4096;
 
 /// The codes of a grid list, and 0 behind them.
 #[derive(Clone, Copy)]
