@@ -21,9 +21,7 @@ pub fn next_field<'a>(sheet: &'a [u8], at: usize) -> Result<RawField<'a>, Refusa
         cause: Cause::Truncated,
         place: at,
     };
-    let Some((head, rest)) = sheet[at..].split_first_chunk::<3>() else {
-        return Err(truncated);
-    };
+    let (head, rest) = sheet[at..].split_first_chunk::<3>().ok_or(truncated)?;
     let size = usize::from(u16::from_be_bytes([head[1], head[2]]));
     if rest.len() < size {
         return Err(truncated);

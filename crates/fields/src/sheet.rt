@@ -51,10 +51,7 @@ impl<'a> Iterator for Fields<'a> {
             return None;
         }
         let field = next_field(self.bytes, self.at);
-        self.at = match field {
-            Ok(raw) => raw.next,
-            Err(_) => self.bytes.len(),
-        };
+        self.at = field.map_or(self.bytes.len(), |raw| raw.next);
         Some(field)
     }
 }
