@@ -21,12 +21,12 @@ pub const EXAMPLE: &str =
 
 fn content(heap: Global, text: &str) -> Result<Vec<u8>, Fail> {
     let mut bytes = Vec::new(heap);
-    for (i, part) in text.split('#').enumerate() {
-        if i == 0 {
-            bytes.extend_from_slice(part.as_bytes())?;
-        } else {
-            bytes.extend_from_slice(&part.parse::<i32>()?.to_be_bytes())?;
-        }
+    let mut parts = text.split('#');
+    if let Some(words) = parts.next() {
+        bytes.extend_from_slice(words.as_bytes())?;
+    }
+    for number in parts {
+        bytes.extend_from_slice(&number.parse::<i32>()?.to_be_bytes())?;
     }
     Ok(bytes)
 }

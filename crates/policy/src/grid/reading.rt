@@ -23,16 +23,14 @@ impl GridSource {
             });
         }
         let size = algebra.size();
-        match first_beyond(list, size) {
-            Some(place) => Err(Refusal {
+        if let Some(place) = first_beyond(list, size) {
+            return Err(Refusal {
                 cause: Cause::BadContent,
                 place,
-            }),
-            None => {
-                let codes = held(list);
-                Ok(GridSource { codes, shape, size })
-            }
+            });
         }
+        let codes = held(list);
+        Ok(GridSource { codes, shape, size })
     }
 }
 

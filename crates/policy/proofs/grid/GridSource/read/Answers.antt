@@ -15,11 +15,11 @@ invariant_of-result g c =
     let some : 0 < c.size-size.result = omega arith in
     record {
       some_code = some;
-      all_below = ∣ held_below c.size-size.result c.held-codes.result list some (held_in list 4096 _ c.held-codes.ensures.codes_then_zeros) (passes_with_none _ list c.in-None.ensures) ∣₁;
+      all_below = ∣ held_below c.size-size.result c.held-codes.result list some (held_in list 4096 _ c.held-codes.ensures.codes_then_zeros) (passes_with_none _ list c.in_default.ensures) ∣₁;
     }
 
-pub returns-in-None : goal.returns-in-None
-returns-in-None g c =
+pub returns : goal.returns
+returns g c =
     let shape = counts_of c.args.shape in
     let list = c.args.list.now in
     let sized = c.size.ensures.product_of_the_counts in
@@ -30,7 +30,7 @@ returns-in-None g c =
     let held = held_in list 4096 _ c.held-codes.ensures.codes_then_zeros in
     record {
       codes_of_the_list =
-          list_held shape c.size-size.result c.held-codes.result list long room held (passes_with_none _ list c.in-None.ensures)
+          list_held shape c.size-size.result c.held-codes.result list long room held (passes_with_none _ list c.in_default.ensures)
           ∙ ap (λ k. codes_of shape k list) c.size-size.ensures;
       means_the_list = same_meaning shape c.size-size.result c.held-codes.result list held ∙ ap (λ k. codes_meaning shape k list) c.size-size.ensures;
     }
