@@ -12,6 +12,8 @@ mod grid_lists;
 #[cfg(test)]
 mod grids;
 #[cfg(test)]
+mod lists;
+#[cfg(test)]
 mod located;
 #[cfg(test)]
 mod policies;
