@@ -15,7 +15,6 @@ use Rattle.reaching.specs.Roots.{SoundRoots}
 use Rattle.table.specs.Built.{Built}
 use Rattle.table.specs.Exact.{OnlyRootsStand}
 use Rattle.table.proofs.Exactness.{capacity_decides_lem}
-use Rattle.building.proofs.Walking.{WalkBuilds}
 use Rattle.beside.specs.Makes.{pages_of, StillStand, Makes, WhatIsBuiltIsMade}
 
 module _ (k : ℕ) (shape : List ℕ) (nodes : List Node) (roots : List Link) (marks : List ℕ) (filled : Filled shape) (sound : SoundRoots k shape nodes roots) (closed : Closed shape nodes roots marks) where
@@ -77,9 +76,15 @@ module _ (k : ℕ) (shape : List ℕ) (nodes : List Node) (roots : List Link) (m
 pub what_is_built_is_made : WhatIsBuiltIsMade
 what_is_built_is_made k shape nodes roots marks filled sound closed nodes' marks' p r b = made k shape nodes roots marks filled sound closed nodes' marks' p r b
 
--- what reaching and walking promise, together: the page of the start is made beside the roots
+-- what reaching and walking promise of the counts of a shape, together: the page of the start is made beside the roots
 module _ {Place : Type 0} (stands : Standing Place) (says : Paging Place) (k : ℕ) (shape : List ℕ) (nodes : List Node) (roots : List Link) (marks : List ℕ) (nodes' : List Node) (marks' : List ℕ) (start : Place) (r : Option Link) where
-  pub walked_beside : Filled shape → SoundRoots k shape nodes roots → Closed shape nodes roots marks → WalkBuilds stands says k nodes marks nodes' marks' start r shape
-      → KeepWhileMemoryGrows stands says k shape → FillTheGrid stands says k shape → stands k shape nodes marks 0 start → Makes k shape nodes roots nodes' (says shape nodes 0 start) r
+  -- what the walk promises over these counts
+  abbrev pub WalkBuilds : List ℕ → Type 0
+  WalkBuilds counts =
+      Filled counts → Sound k counts nodes (Marked marks) → KeepWhileMemoryGrows stands says k counts → FillTheGrid stands says k counts → stands k counts nodes marks 0 start
+      → Built k counts nodes (Marked marks) nodes' (Marked marks') 0 (says counts nodes 0 start) r
+
+  pub walked_beside : Filled shape → SoundRoots k shape nodes roots → Closed shape nodes roots marks → WalkBuilds shape → KeepWhileMemoryGrows stands says k shape → FillTheGrid stands says k shape
+      → stands k shape nodes marks 0 start → Makes k shape nodes roots nodes' (says shape nodes 0 start) r
   walked_beside filled sound closed walk keep fill stand =
-      made k shape nodes roots marks filled sound closed nodes' marks' (says shape nodes 0 start) r (walk (marked_sound k shape nodes roots marks filled sound closed) keep fill stand)
+      made k shape nodes roots marks filled sound closed nodes' marks' (says shape nodes 0 start) r (walk filled (marked_sound k shape nodes roots marks filled sound closed) keep fill stand)

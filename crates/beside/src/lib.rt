@@ -48,6 +48,13 @@ impl Memory<'_> {
         let bytes = &mut *self.bytes;
         let mut marking = Marking::new(bytes);
         mark_reached(&mut marking, nodes, self.shape.counts(), roots);
-        build(places, nodes, &mut marking, self.shape, slots, start)
+        build(
+            places,
+            nodes,
+            &mut marking,
+            self.shape.counts(),
+            slots,
+            start,
+        )
     }
 }

@@ -8,7 +8,7 @@ use Rattle.diagram.specs.declared.Link.{Link}
 use Rattle.diagram.specs.declared.Link.TheVariants.{Decision}
 use Rattle.diagram.specs.Sound.{Sound}
 use Rattle.diagram.specs.Growing.{Grown}
-use Rattle.places.specs.Places.{Standing, Paging, in_cell, KeepWhileMemoryGrows, FillTheGrid, LeadsTo, SettledBy, SaysTheSameUntil}
+use Rattle.places.specs.Places.{Standing, Paging, in_cell, LeadsTo, SettledBy, SaysTheSameUntil}
 use Rattle.table.specs.Built.{Built}
 use Rattle.table.specs.Reduced.{BranchesBuilt, Reducible}
 use Rattle.table.proofs.Branching.{branch_more, branch-none}
@@ -278,10 +278,3 @@ module _ {Place : Type 0} (stands : Standing Place) (says : Paging Place) (shape
         pub lacks : Reduces None → Built aim.codes shape aim.first_nodes (Marked aim.first_marks) nodes'' (Marked marks'') 0 aim.whole_page None
         lacks b =
             lacks_for_all h.walkable fs w.asked_nodes w.asked_marks w.asked_level (says shape w.asked_nodes w.asked_level f.place) h.page_is_awaited.1 nodes'' marks'' (reduced None b)
-
--- ---- the whole walk
--- what a walk builds, over the counts
-abbrev pub WalkBuilds : {Place : Type 0} → Standing Place → Paging Place → ℕ → List Node → List ℕ → List Node → List ℕ → Place → Option Link → List ℕ → Type 0
-WalkBuilds stands says k nodes marks nodes' marks' start r counts =
-    Sound k counts nodes (Marked marks) → KeepWhileMemoryGrows stands says k counts → FillTheGrid stands says k counts → stands k counts nodes marks 0 start
-    → Built k counts nodes (Marked marks) nodes' (Marked marks') 0 (says counts nodes 0 start) r

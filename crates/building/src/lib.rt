@@ -2,8 +2,7 @@
 #![tactic(auto)]
 
 ghost use Rattle.std.specs.Prelude.{◌≡◌, ℕ, ◌<◌, ◌≤◌, List, length, slice_index};
-ghost use Rattle.vocabulary.specs.Grid.{Narrow};
-ghost use Rattle.vocabulary.specs.Record.{counts_of};
+ghost use Rattle.vocabulary.specs.Grid.{Filled, Narrow};
 ghost use Rattle.marking.specs.Marks.{Marked};
 ghost use Rattle.diagram.specs.Sound.{Sound};
 ghost use Rattle.places.specs.Places.{FillTheGrid, KeepWhileMemoryGrows};
@@ -17,7 +16,6 @@ use marking::Marking;
 use places::{Level, Places, Seen};
 use stack::Stack;
 use table::reduce;
-use vocabulary::record::Shape;
 
 /// A place whose cells are built one after the other, with the branches of the cells before `cell`.
 #[derive(Clone, Copy)]
@@ -141,19 +139,20 @@ pub fn build<P: Places>(
     places: &mut P,
     nodes: &mut [Node],
     marking: &mut Marking,
-    shape: &Shape,
+    counts: &[u8],
     slots: &mut [Frame<P::Place>],
     start: P::Place,
 ) -> Option<Link>
     requires one_byte_a_record { length marking.old.bytes.now ≡ length nodes.old }
     requires at_most_2048_records { length nodes.old ≤ 2048 }
-    requires one_slot_an_attribute { length (counts_of shape.now) ≤ length slots.old }
+    requires narrow { Narrow counts.now }
+    requires at_most_eight_attributes { length counts.now ≤ 8 }
+    requires one_slot_an_attribute { length counts.now ≤ length slots.old }
     ensures same_bytes { marking.new.bytes.ghost_name ≡ marking.old.bytes.ghost_name }
     ensures live_stays { LiveStays nodes.old marking.old.bytes.now nodes.new marking.new.bytes.now }
     ensures keeps_what_was_kept { (first : P) → P.Places.kept first places.old → P.Places.kept first places.new }
-    ensures builds_the_page { (k : ℕ) → Sound k (counts_of shape.now) nodes.old (Marked marking.old.bytes.now) → KeepWhileMemoryGrows (P.Places.stands places.old) (P.Places.says places.old) k (counts_of shape.now) → FillTheGrid (P.Places.stands places.old) (P.Places.says places.old) k (counts_of shape.now) → P.Places.stands places.old k (counts_of shape.now) nodes.old marking.old.bytes.now 0 start → Built k (counts_of shape.now) nodes.old (Marked marking.old.bytes.now) nodes.new (Marked marking.new.bytes.now) 0 (P.Places.says places.old (counts_of shape.now) nodes.old 0 start) result }
+    ensures builds_the_page { (k : ℕ) → Filled counts.now → Sound k counts.now nodes.old (Marked marking.old.bytes.now) → KeepWhileMemoryGrows (P.Places.stands places.old) (P.Places.says places.old) k counts.now → FillTheGrid (P.Places.stands places.old) (P.Places.says places.old) k counts.now → P.Places.stands places.old k counts.now nodes.old marking.old.bytes.now 0 start → Built k counts.now nodes.old (Marked marking.old.bytes.now) nodes.new (Marked marking.new.bytes.now) 0 (P.Places.says places.old counts.now nodes.old 0 start) result }
 {
-    let counts = shape.counts();
     let mut stack = Stack::new(slots);
     let mut turn = Turn::Open(0, start);
     'turns: loop {

@@ -1,10 +1,11 @@
-use Rattle.std.proofs.Common.{◌≡◌, ℕ, length, replicate, refl, ap, ◌∙◌, subst, arith, rules}
+use Rattle.std.proofs.Common.{◌≡◌, ℕ, ◌≤◌, length, replicate, sym, refl, ap, ◌∙◌, subst, arith, rules}
 use Rattle.std.proofs.lemmas.List.{length-replicate}
+use Rattle.vocabulary.specs.Grid.{Narrow}
 use Rattle.vocabulary.specs.Record.{counts_of}
-use Rattle.vocabulary.proofs.Walked.{counts_are_few, counts_are_filled}
+use Rattle.vocabulary.proofs.Walked.{counts_are_few, counts_are_narrow, counts_are_filled}
 use Rattle.diagram.specs.Marks.{Closed}
 use Rattle.reaching.specs.Roots.{roots_in, SoundRoots}
-use Rattle.beside.proofs.Upholding.{walked_beside}
+use Rattle.beside.proofs.Upholding.{WalkBuilds, walked_beside}
 use Rattle.beside.proofs.Memory.make_beside.Goals as goal
 
 pub build-requires : goal.build-requires
@@ -13,10 +14,13 @@ build-requires g c =
     let many : length c.mark_reached.new.marking.bytes.now ≡ length memory.nodes.now =
     c.mark_reached.ensures.as_many_bytes ∙ ap length c.new-marking.ensures.starts_clear ∙ length-replicate (length memory.bytes.now) 0 ∙ memory.one_byte_a_record
     in
+    let few : length c.counts-2.result.now ≤ 8 = omega (arith, ap length c.counts-2.ensures, counts_are_few memory.shape.now) in
     record {
       one_byte_a_record = many;
       at_most_2048_records = memory.at_most_2048_records;
-      one_slot_an_attribute = omega (arith, counts_are_few memory.shape.now, c.requires);
+      narrow = subst Narrow (sym c.counts-2.ensures) (counts_are_narrow memory.shape.now);
+      at_most_eight_attributes = few;
+      one_slot_an_attribute = omega (arith, few, c.requires);
     }
 
 pub returns : goal.returns
@@ -43,5 +47,6 @@ returns g c =
           (λ s. c.mark_reached.ensures.just_what_is_reached_is_live k s (clear ∙ ap (λ (n : ℕ). replicate n 0) memory.one_byte_a_record)) sound
           in
           walked_beside stands says k (counts_of shape) memory.nodes.now roots marks c.build.new.nodes c.build.new.marking.bytes.now c.args.start c.build.result (counts_are_filled shape) sound closed
-          (c.build.ensures.builds_the_page k) keep fill (stand marks closed);
+          (subst (WalkBuilds stands says k (counts_of shape) memory.nodes.now roots marks c.build.new.nodes c.build.new.marking.bytes.now c.args.start c.build.result) c.counts-2.ensures (c.build.ensures.builds_the_page k))
+          keep fill (stand marks closed);
     }
