@@ -128,10 +128,10 @@ fn up<P: Places>(
             Err(_) => Turn::End(None),
         };
     }
-    match reduce(nodes, marking, frame.level, n, branches) {
-        Some(whole) => Turn::Hand(whole),
-        None => Turn::End(None),
-    }
+    reduce(nodes, marking, frame.level, n, branches).map_or(
+        Turn::End(None),
+        |whole| Turn::Hand(whole),
+    )
 }
 
 /// Builds the page of a place: its link, or nothing where a record is lacking.

@@ -1,12 +1,14 @@
-use Rattle.std.proofs.Common.{◌≡◌, ℕ, ◌+◌, ◌<◌, List, ◌∷◌, length, get_or, sym, refl, ap, ◌∙◌, subst, ⊎_elim, arith, length-set, rules}
+use Rattle.std.proofs.Common.{◌≡◌, ℕ, ◌+◌, ◌<◌, List, ◌∷◌, None, length, get_or, sym, refl, ap, ◌∙◌, subst, ⊎_elim, arith, length-set, rules}
+use Rattle.std.specs.Prelude.{MatchOption}
 use Rattle.std.proofs.lemmas.List.{get_or_past}
 use Rattle.std.proofs.lemmas.Bool.{cases_lt}
-use Rattle.table.proofs.Storing.{unwritten, reduced_stays}
+use Rattle.table.proofs.Storing.{unwritten}
+use Rattle.building.specs.declared.Turn.TheVariants.{Hand, End}
 use Rattle.building.specs.Work.{frames, waiting_work}
 use Rattle.building.specs.Walk.{Opening, Handing}
 use Rattle.building.proofs.Measuring.{cell_falls}
 use Rattle.building.proofs.Stacking.{frames_onto, frames_popped}
-use Rattle.building.proofs.Walking.{at_a_cell, goes_on, hands_on, lacks}
+use Rattle.building.proofs.Walking.{at_a_cell, goes_on, handed_or_ended}
 use Rattle.building.proofs.up.Goals as goal
 
 -- a level that has a cell is one of the shape
@@ -66,40 +68,16 @@ returns-in-Ok g c =
           more c.child-place.result (c.child-place.ensures.leads_to_the_cell aim.codes c.args.marking.now.bytes.now));
     }
 
-pub returns-in-Some-reduce : goal.returns-in-Some-reduce
-returns-in-Some-reduce g c =
+pub returns-clause-walk_goes_on : goal.returns-clause-walk_goes_on
+returns-clause-walk_goes_on g c =
+    λ aim h.
     let fs = frames c.pop.new.self.slots.now c.pop.new.self.len in
     let e : frames c.args.stack.now.slots.now c.args.stack.now.len ≡ c.in-Some.frame ∷ fs =
     frames_popped _ _ _ _ _ c.in-Some.ensures.popped_or_empty c.pop.ensures.no_slot_written
     in
-    record {
-      same_slots = c.pop.ensures.same_slots;
-      as_many_slots = ap length c.pop.ensures.no_slot_written;
-      same_bytes = c.in-Some-reduce.ensures.same_bytes;
-      live_stays = reduced_stays _ _ _ _ _ _ _ _ c.in-Some-reduce.ensures.one_link_or_one_record;
-      less_is_left = let a = ap (waiting_work c.args.counts.now) e in omega (arith, a);
-      walk_goes_on =
-          λ aim h.
-          hands_on (g.P.Places.stands c.args.places.now) (g.P.Places.says c.args.places.now) c.args.counts.now aim c.args.nodes.now c.args.marking.now.bytes.now c.in-Some.frame fs c.args.link
-          (subst (λ fs'. Handing (g.P.Places.stands c.args.places.now) (g.P.Places.says c.args.places.now) c.args.counts.now aim c.args.nodes.now c.args.marking.now.bytes.now fs' c.args.link) e h)
-          c.cells-n.result c.cells-n.ensures c.if-cell-n.false c.reduce.new.nodes c.reduce.new.marking.bytes.now c.in-Some-reduce.whole c.in-Some-reduce.ensures.builds_the_page;
-    }
-
-pub returns-in-None : goal.returns-in-None
-returns-in-None g c =
-    let fs = frames c.pop.new.self.slots.now c.pop.new.self.len in
-    let e : frames c.args.stack.now.slots.now c.args.stack.now.len ≡ c.in-Some.frame ∷ fs =
-    frames_popped _ _ _ _ _ c.in-Some.ensures.popped_or_empty c.pop.ensures.no_slot_written
+    let h' =
+    subst (λ fs'. Handing (g.P.Places.stands c.args.places.now) (g.P.Places.says c.args.places.now) c.args.counts.now aim c.args.nodes.now c.args.marking.now.bytes.now fs' c.args.link) e h
     in
-    record {
-      same_slots = c.pop.ensures.same_slots;
-      as_many_slots = ap length c.pop.ensures.no_slot_written;
-      same_bytes = c.in-None.ensures.same_bytes;
-      live_stays = reduced_stays _ _ _ _ _ _ _ _ c.in-None.ensures.one_link_or_one_record;
-      less_is_left = omega arith;
-      walk_goes_on =
-          λ aim h.
-          lacks (g.P.Places.stands c.args.places.now) (g.P.Places.says c.args.places.now) c.args.counts.now aim c.args.nodes.now c.args.marking.now.bytes.now c.in-Some.frame fs c.args.link
-          (subst (λ fs'. Handing (g.P.Places.stands c.args.places.now) (g.P.Places.says c.args.places.now) c.args.counts.now aim c.args.nodes.now c.args.marking.now.bytes.now fs' c.args.link) e h)
-          c.cells-n.result c.cells-n.ensures c.if-cell-n.false c.reduce.new.nodes c.reduce.new.marking.bytes.now c.in-None.ensures.builds_the_page;
-    }
+    let is : MatchOption c.reduce.result (c.map_or.result ≡ End None) (λ whole. c.map_or.result ≡ Hand whole) = search rules in
+    handed_or_ended (g.P.Places.stands c.args.places.now) (g.P.Places.says c.args.places.now) c.args.counts.now aim c.args.nodes.now c.args.marking.now.bytes.now c.in-Some.frame fs c.args.link h'
+    c.cells-n.result c.cells-n.ensures c.if-cell-n.false c.reduce.new.nodes c.reduce.new.marking.bytes.now c.reduce.result c.reduce.ensures.builds_the_page c.map_or.result is
