@@ -1,6 +1,6 @@
 -- The steps of the walk, over places of any kind.
-use Rattle.std.proofs.Common.{◌≡◌, ℕ, zero, suc, ◌+◌, ◌<◌, ◌≤◌, List, [], ◌∷◌, length, get_or, drop, set, replicate, Some, None, Option, sym, refl, ap, ◌∙◌, subst, add-one, arith}
-use Rattle.std.specs.Prelude.{MatchOption}
+use Rattle.std.proofs.Common.{◌≡◌, ℕ, zero, suc, ◌+◌, ◌<◌, ◌≤◌, List, [], ◌∷◌, length, get_or, drop, set, replicate, Some, None, Option, sym, refl, ap, ◌∙◌, subst, add-one, arith, Result, Ok, Err}
+use Rattle.std.specs.Prelude.{MatchOption, MatchResult}
 use Rattle.vocabulary.specs.Grid.{grid}
 use Rattle.pages.specs.Pages.{runs}
 use Rattle.marking.specs.Marks.{Marked}
@@ -286,3 +286,9 @@ module _ {Place : Type 0} (stands : Standing Place) (says : Paging Place) (shape
         pub handed_or_ended : (r : Option Link) → Reduces r → (turn : Turn Place) → MatchOption r (turn ≡ End None) (λ l'. turn ≡ Hand l') → Underway stands says shape aim nodes'' marks'' fs turn
         handed_or_ended None b turn is = subst (Underway stands says shape aim nodes'' marks'' fs) (sym is) (lacks b)
         handed_or_ended (Some l') b turn is = subst (Underway stands says shape aim nodes'' marks'' fs) (sym is) (hands_on l' b)
+
+-- ---- a turn that is made of what a push answered
+-- what holds of either turn holds of the one that is made
+pub after_push : {T A E Pushed Refused : Type 0} (P : T → Type 0) (r : Result A E) (turn ok err : T) → MatchResult r (λ _. Pushed) (λ _. Refused) → MatchResult r (λ _. turn ≡ ok) (λ _. turn ≡ err) → (Pushed → P ok) → (Refused → P err) → P turn
+after_push P (Ok a) turn ok err said is pushed refused = subst P (sym is) (pushed said)
+after_push P (Err e) turn ok err said is pushed refused = subst P (sym is) (refused said)
