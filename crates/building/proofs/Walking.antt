@@ -1,5 +1,6 @@
 -- The steps of the walk, over places of any kind.
-use Rattle.std.proofs.Common.{◌≡◌, ℕ, zero, suc, ◌+◌, ◌<◌, ◌≤◌, List, [], ◌∷◌, length, get_or, drop, set, replicate, Some, None, Option, sym, refl, ap, ◌∙◌, subst, add-one, arith}
+use Rattle.std.proofs.Common.{◌≡◌, ℕ, zero, suc, ◌+◌, ◌<◌, ◌≤◌, List, [], ◌∷◌, length, get_or, drop, set, replicate, Some, None, Option, sym, refl, ap, ◌∙◌, subst, add-one, arith, Result, Ok, Err}
+use Rattle.std.specs.Prelude.{MatchOption, MatchResult}
 use Rattle.vocabulary.specs.Grid.{grid}
 use Rattle.pages.specs.Pages.{runs}
 use Rattle.marking.specs.Marks.{Marked}
@@ -13,7 +14,9 @@ use Rattle.table.specs.Built.{Built}
 use Rattle.table.specs.Reduced.{BranchesBuilt, Reducible}
 use Rattle.table.proofs.Branching.{branch_more, branch-none}
 use Rattle.building.specs.declared.Frame.{Frame}
-use Rattle.building.specs.Walk.{fresh, Aim, Walkable, Waits, AskedFirst, Awaited, Opening, Handing}
+use Rattle.building.specs.declared.Turn.{Turn}
+use Rattle.building.specs.declared.Turn.TheVariants.{Hand, End}
+use Rattle.building.specs.Walk.{fresh, Aim, Walkable, Waits, AskedFirst, Awaited, Opening, Handing, Underway}
 use Rattle.building.proofs.Cutting.{cells_are_the_page, cell_fills}
 use Rattle.building.proofs.Lowering.{lower_to}
 
@@ -263,7 +266,7 @@ module _ {Place : Type 0} (stands : Standing Place) (says : Paging Place) (shape
             place_built h.walkable f h.asked_nodes h.asked_marks h.asked_level h.asked_page w nodes marks l h.page_is_built n cells last nodes'' marks'' r
             (b aim.codes shape _ _ _ (reducible h.walkable f h.asked_nodes h.asked_marks h.asked_level h.asked_page w nodes marks l h.page_is_built n cells last))
 
-        pub hands_on : (l' : Link) → Reduces (Some l') → Handing stands says shape aim nodes'' marks'' fs l'
+        hands_on : (l' : Link) → Reduces (Some l') → Handing stands says shape aim nodes'' marks'' fs l'
         hands_on l' b =
             record {
               walkable = h.walkable;
@@ -275,6 +278,17 @@ module _ {Place : Type 0} (stands : Standing Place) (says : Paging Place) (shape
               page_is_built = reduced (Some l') b;
             }
 
-        pub lacks : Reduces None → Built aim.codes shape aim.first_nodes (Marked aim.first_marks) nodes'' (Marked marks'') 0 aim.whole_page None
+        lacks : Reduces None → Built aim.codes shape aim.first_nodes (Marked aim.first_marks) nodes'' (Marked marks'') 0 aim.whole_page None
         lacks b =
             lacks_for_all h.walkable fs w.asked_nodes w.asked_marks w.asked_level (says shape w.asked_nodes w.asked_level f.place) h.page_is_awaited.1 nodes'' marks'' (reduced None b)
+
+        -- the turn that hands the link on, or ends where there is none
+        pub handed_or_ended : (r : Option Link) → Reduces r → (turn : Turn Place) → MatchOption r (turn ≡ End None) (λ l'. turn ≡ Hand l') → Underway stands says shape aim nodes'' marks'' fs turn
+        handed_or_ended None b turn is = subst (Underway stands says shape aim nodes'' marks'' fs) (sym is) (lacks b)
+        handed_or_ended (Some l') b turn is = subst (Underway stands says shape aim nodes'' marks'' fs) (sym is) (hands_on l' b)
+
+-- ---- a turn that is made of what a push answered
+-- what holds of either turn holds of the one that is made
+pub after_push : {T A E Pushed Refused : Type 0} (P : T → Type 0) (r : Result A E) (turn ok err : T) → MatchResult r (λ _. Pushed) (λ _. Refused) → MatchResult r (λ _. turn ≡ ok) (λ _. turn ≡ err) → (Pushed → P ok) → (Refused → P err) → P turn
+after_push P (Ok a) turn ok err said is pushed refused = subst P (sym is) (pushed said)
+after_push P (Err e) turn ok err said is pushed refused = subst P (sym is) (refused said)

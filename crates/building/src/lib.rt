@@ -74,10 +74,9 @@ fn down<P: Places>(
         Seen::Settled(link) => Turn::Hand(link),
         Seen::Branches(at) => {
             let first = places.child(&Level { number: at, ..here }, place, 0);
-            match stack.push(Frame::new(place, at)) {
-                Ok(()) => Turn::Open(at + 1, first),
-                Err(_) => Turn::End(None),
-            }
+            stack
+                .push(Frame::new(place, at))
+                .map_or(Turn::End(None), |()| Turn::Open(at + 1, first))
         }
     }
 }
@@ -119,19 +118,19 @@ fn up<P: Places>(
     let cell = frame.cell + 1;
     if cell < n {
         let place = places.child(&level, frame.place, cell);
-        return match stack.push(Frame {
+        let next = Frame {
             cell,
             branches,
             ..frame
-        }) {
-            Ok(()) => Turn::Open(frame.level + 1, place),
-            Err(_) => Turn::End(None),
         };
+        return stack
+            .push(next)
+            .map_or(Turn::End(None), |()| Turn::Open(frame.level + 1, place));
     }
-    match reduce(nodes, marking, frame.level, n, branches) {
-        Some(whole) => Turn::Hand(whole),
-        None => Turn::End(None),
-    }
+    reduce(nodes, marking, frame.level, n, branches).map_or(
+        Turn::End(None),
+        |whole| Turn::Hand(whole),
+    )
 }
 
 /// Builds the page of a place: its link, or nothing where a record is lacking.

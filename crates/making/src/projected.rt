@@ -80,10 +80,10 @@ impl<'a> Places for Projected<'a> {
         if place == Link::Decision(0) {
             return Seen::Settled(place);
         }
-        match self.first_branch(level, place) {
-            Some(at) => Seen::Branches(at),
-            None => Seen::Settled(Link::Decision(kept(self.decisions, place.decision()))),
-        }
+        self.first_branch(level, place).map_or_else(
+            || Seen::Settled(Link::Decision(kept(self.decisions, place.decision()))),
+            Seen::Branches,
+        )
     }
 
     fn child(&self, level: &Level, place: Link, cell: u8) -> Link {
