@@ -1,7 +1,10 @@
 //! Locating the requests of an input.
 ghost use Rattle.std.specs.Prelude.{◌≡◌, map, IfOk};
+ghost use Rattle.std.specs.Option.{unwrap_or};
 ghost use Rattle.refusal.specs.Answers.{answer_by};
 ghost use Rattle.fields.specs.Shown.{bare, found, EndsWithin};
+ghost use Rattle.vocabulary.specs.Grid.{number_if};
+ghost use Rattle.vocabulary.specs.Vocabulary.{shape_of};
 ghost use Rattle.vocabulary.specs.Record.{attributes_of};
 ghost use Rattle.location.specs.Served.{vocabulary_field};
 ghost use Rattle.location.specs.Located.{placed, located};
@@ -28,6 +31,13 @@ pub fn vocabulary_field<'a>(input: &'a [u8]) -> Result<RawField<'a>, Refusal>
     Ok(first)
 }
 
+/// The grid number of cells; they have one where they are cells of the vocabulary.
+fn grid_number(vocabulary: &Vocabulary, cells: &[u8]) -> usize
+    ensures { result ≡ unwrap_or (number_if (shape_of (attributes_of vocabulary.now)) cells.now) 0 }
+{
+    vocabulary.shape().number(cells).unwrap_or(0)
+}
+
 /// Where the request in a field 0x04 lies.
 pub fn find(vocabulary: &Vocabulary, raw: &RawField) -> Result<Location, Refusal>
     ensures { answer_by place_shown result ≡ placed raw.now.at (attributes_of vocabulary.now) (bare raw.now) }
@@ -36,9 +46,8 @@ pub fn find(vocabulary: &Vocabulary, raw: &RawField) -> Result<Location, Refusal
         return Err(raw.refused(Cause::UnexpectedTag));
     }
     let cells = read_request(vocabulary, raw.content)?;
-    let number = vocabulary.shape().number(cells.as_slice());
     Ok(Location {
-        number: number.unwrap_or(0),
+        number: grid_number(vocabulary, cells.as_slice()),
         cells,
     })
 }

@@ -1,4 +1,4 @@
-use Rattle.std.proofs.Common.{◌≡◌, true, false, eqb, Ok, Err, unwrap_or, sym, ap, ◌∙◌, ap₂, arith}
+use Rattle.std.proofs.Common.{◌≡◌, true, false, eqb, Ok, Err, unwrap_or, sym, ap, ◌∙◌, arith}
 use Rattle.std.proofs.lemmas.Bool.Decides.{nat_tests}
 use Rattle.refusal.specs.Answers.{told_by}
 use Rattle.fields.specs.Shown.{bare}
@@ -22,7 +22,7 @@ returns c =
     let t : eqb raw.tag 0x04 ≡ true = grind (arith, nat_tests) in
     let cs = cells_of c.in_ok-cells.cells in
     let inside = read_gives_cells_lem v raw.content.now cs (sym c.in_ok-cells.ensures) in
-    let there : c.unwrap_or.result ≡ number (shape_of v) cs =
-    c.unwrap_or.ensures ∙ ap (λ o. unwrap_or o 0) (c.number-number.ensures ∙ ap₂ number_if c.shape.ensures c.as_slice.ensures ∙ number_there (shape_of v) cs inside)
+    let there : c.grid_number.result ≡ number (shape_of v) cs =
+    c.grid_number.ensures ∙ ap (λ o. unwrap_or o 0) (ap (number_if (shape_of v)) c.as_slice.ensures ∙ number_there (shape_of v) cs inside)
     in
     ap (λ n. Ok (record { grid_number = n; cells = cs })) there ∙ sym (request_read raw.at v (bare raw) cs t c.in_ok-cells.ensures)
