@@ -7,10 +7,10 @@ fn up_to_the_places(rt: HostRuntime) {
     let mut list = ShortList::<u8, 3>::new(9);
     assert_eq!(rt; list.as_slice(), [0u8; 0].as_slice());
     for item in 1..=3u8 {
-        assert_eq!(rt; list.try_push(item), Ok(()), "item {item}");
+        assert_eq!(rt; list.push(item), Ok(()), "item {item}");
     }
     assert_eq!(rt; list.len(), 3);
-    assert_eq!(rt; list.try_push(4), Err(Full));
+    assert_eq!(rt; list.push(4), Err(Full));
     assert_eq!(rt; list.as_slice(), [1, 2, 3].as_slice());
     list.set(1, 7);
     assert_eq!(rt; list.as_slice(), [1, 7, 3].as_slice());

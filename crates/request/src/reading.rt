@@ -90,7 +90,7 @@ impl Given {
         };
         let mut cells = ShortList::new(0);
         for given in self.cells.as_slice() {
-            cells.push(given.ok_or(missing)?);
+            cells.add(given.ok_or(missing)?);
         }
         Ok(cells)
     }

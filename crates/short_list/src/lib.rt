@@ -81,8 +81,8 @@ impl<T: Copy, const N: usize> ShortList<T, N> {
         &self.items[..self.len]
     }
 
-    /// Adds an item at the end.
-    pub fn push(&mut self, item: T)
+    /// Adds an item at the end, where there is room.
+    pub fn add(&mut self, item: T)
         requires { length (items_of self.old) < N }
         ensures { items_of self.new ≡ items_of self.old ++ item ∷ [] }
     {
@@ -91,13 +91,13 @@ impl<T: Copy, const N: usize> ShortList<T, N> {
     }
 
     /// Adds an item at the end, unless there is one in each place.
-    pub fn try_push(&mut self, item: T) -> Result<(), Full>
+    pub fn push(&mut self, item: T) -> Result<(), Full>
         ensures { Added self.old item result self.new }
     {
         if self.len >= N {
             return Err(Full);
         }
-        self.push(item);
+        self.add(item);
         Ok(())
     }
 

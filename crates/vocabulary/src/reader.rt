@@ -23,7 +23,7 @@ fn read_cuts(bytes: &[u8]) -> Cuts
     let mut cuts = ShortList::new(0);
     let (numbers, _) = bytes.as_chunks::<4>();
     for four in numbers {
-        cuts.push(number(four));
+        cuts.add(number(four));
     }
     cuts
 }
@@ -47,7 +47,7 @@ impl Attributes {
         requires grid_still_fits { self.old.size * cells_in attribute.kind ≤ 4096 }
         ensures { items_of self.new.items ≡ items_of self.old.items ++ attribute ∷ [] }
     {
-        self.items.push(attribute);
+        self.items.add(attribute);
         self.size *= attribute.kind.cells();
     }
 }
@@ -127,7 +127,7 @@ impl<'a> Reader<'a> {
             return Err(raw.refused(Cause::GridTooLarge));
         }
         let mut names = names;
-        names.push(span_of(raw));
+        names.add(span_of(raw));
         self.state = State::Listing(name, names);
         Ok(())
     }

@@ -18,7 +18,7 @@ impl Vocabulary<'_> {
     {
         let mut counts = ShortList::new(0);
         for attribute in self.attributes.items.as_slice() {
-            counts.push(attribute.kind.cells() as u8);
+            counts.add(attribute.kind.cells() as u8);
         }
         Shape {
             counts,
@@ -107,7 +107,7 @@ impl Shape {
         let mut rest = number;
         for count in self.counts() {
             size /= usize::from(*count);
-            cells.push((rest / size) as u8);
+            cells.add((rest / size) as u8);
             rest %= size;
         }
         Some(cells)

@@ -9,6 +9,6 @@ invariant_of-self c =
     let v = c.args.self.now in
     let cells = c.cells.ensures.number_of_cells in
     record {
-      sized = size_push _ c.args.attribute v.size _ v.sized cells ∙ ap (λ xs. grid (counts_in xs)) (sym c.push.ensures);
+      sized = size_push _ c.args.attribute v.size _ v.sized cells ∙ ap (λ xs. grid (counts_in xs)) (sym c.add.ensures);
       small = subst (λ (k : ℕ). v.size * k ≤ 4096) (sym cells) c.requires.grid_still_fits;
     }

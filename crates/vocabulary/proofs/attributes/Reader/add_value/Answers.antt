@@ -38,9 +38,9 @@ returns c =
     let one : suc (length names) ≡ c.len-2.result + 1 = omega arith in
     let found = c.find.ensures ∙ ap (λ xs. place c.args.value.now (map (name_at bs) xs)) c.as_slice.ensures in
     let span = c.span_of.ensures in
-    let more : names ++ c.args.value.now ∷ [] ≡ names_in bs c.push.new.self =
+    let more : names ++ c.args.value.now ∷ [] ≡ names_in bs c.add.new.self =
     ap (λ w. names ++ w ∷ []) (named-at bs c.args.raw.now c.args.value.now c.span_of.result c.requires.named_by span.begins_behind_the_head span.as_long_as_the_content)
-    ∙ sym (ap (map (name_at bs)) c.push.ensures ∙ map-append (name_at bs) (items_of c.args.names) (c.span_of.result ∷ []))
+    ∙ sym (ap (map (name_at bs)) c.add.ensures ∙ map-append (name_at bs) (items_of c.args.names) (c.span_of.result ∷ []))
     in (
       value_new c.args.raw.now.at _ _ names c.args.value.now few (known_by c.args.value.now names c.find.result false found c.if-is_some.ensures)
           ∙ grid_fits c.args.raw.now.at _ _ _ _ _ (size_of bs c.args.self.now.whole) one c.if-self-len-gt4096.false

@@ -27,6 +27,6 @@ loop-count-preserved c =
       grid_of_the_rest = size_more ns i c.loop-count.rest c.loop-count.size c.from-size.result inside is grids within;
       rest_within = mod-lt _ (size_positive ns i c.loop-count.rest c.loop-count.size c.from-size.result inside is grids within);
       cells_so_far = cells_more ns i c.loop-count.rest c.loop-count.size c.from-size.result inside is grids within _ _ c.loop-count.invariant.cells_so_far
-          ∙ ap (λ x. x ++ cells_at (drop (i + 1) ns) (c.loop-count.rest % (c.loop-count.size / c.from-size.result))) (sym c.push.ensures);
-      as_many_cells = ap length c.push.ensures ∙ length-append _ _ ∙ ap (λ (n : ℕ). n + 1) c.loop-count.invariant.as_many_cells;
+          ∙ ap (λ x. x ++ cells_at (drop (i + 1) ns) (c.loop-count.rest % (c.loop-count.size / c.from-size.result))) (sym c.add.ensures);
+      as_many_cells = ap length c.add.ensures ∙ length-append _ _ ∙ ap (λ (n : ℕ). n + 1) c.loop-count.invariant.as_many_cells;
     }
