@@ -56,6 +56,7 @@ impl<T: Copy, const N: usize> ShortList<T, N> {
     }
 
     /// The same item, `len` times.
+    #[tactic(auto, using(crate::proofs::Places::repeated))]
     pub fn repeat(item: T, len: usize) -> ShortList<T, N>
         requires { len ≤ N }
         ensures { items_of result ≡ replicate len item }
@@ -102,6 +103,7 @@ impl<T: Copy, const N: usize> ShortList<T, N> {
     }
 
     /// Puts an item in the place of another.
+    #[tactic(auto, using(crate::proofs::Places::put_among))]
     pub fn set(&mut self, i: usize, item: T)
         requires { i < length (items_of self.old) }
         ensures { items_of self.new ≡ slice_set (items_of self.old) i item }
