@@ -51,19 +51,20 @@ impl<'a> Projected<'a> {
         self.masks.get(level).copied().unwrap_or(0)
     }
 
-    /// The first level, from one on, at which the link's record stands or a cell is left out.
-    /// One past 255 is answered as 255, up to which the link is passed on too.
+    /// The first level, from one on, at which the link's record stands or a cell is left out; level 255, if there is one, as it is.
     fn first_branch(&self, level: &Level, link: Link) -> Option<u8>
         ensures { FirstBranch self.now.masks.now level.now.counts.now level.now.nodes.now level.now.number link result }
     {
-        for (at, cells) in level.counts.iter().enumerate() {
-            if at >= level.number as usize
-                && (stands_at(level.nodes, at, link) || leaves_out(self.mask(at), *cells))
-            {
-                return Some(u8::try_from(at).unwrap_or(u8::MAX));
+        let first = usize::from(level.number);
+        let end = level.counts.len().min(255);
+        let counts = level.counts.get(first..end).unwrap_or(&[]);
+        for (further, cells) in counts.iter().enumerate() {
+            let at = first + further;
+            if stands_at(level.nodes, at, link) || leaves_out(self.mask(at), *cells) {
+                return Some(at as u8);
             }
         }
-        None
+        (level.counts.len() > 255).then_some(255)
     }
 }
 
