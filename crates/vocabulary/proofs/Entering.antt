@@ -1,6 +1,8 @@
 -- What becomes of a vocabulary when a field is entered.
 use Rattle.std.proofs.Common.{◌≡◌, ℕ, suc, ◌+◌, ◌*◌, ◌<◌, ◌≤◌, Bool, true, false, cond, ◌||◌, leb, List, [], ◌∷◌, ◌++◌, map, length, take, drop, is_some, Some, None, Ok, Option, sym, refl, ap, ◌∙◌, ap₂, arith, le-leb}
 use lib.ListN.{length-map}
+use mir.Val.{bool_byte}
+use Rattle.std.proofs.lemmas.List.{length_push}
 use Rattle.std.proofs.lemmas.Bool.{cond-true, cond-false}
 use Rattle.std.proofs.lemmas.Bool.Decides.{nat_tests}
 use Rattle.refusal.specs.Answers.{refuse}
@@ -17,6 +19,7 @@ use Rattle.vocabulary.specs.Vocabulary as said
 use Rattle.vocabulary.specs.Grid.{grid}
 use Rattle.vocabulary.specs.Vocabulary.{place, later, is_known, names_of, count, shape_of, open_attribute, opened, in_grid, add_value, listing}
 use Rattle.vocabulary.specs.Counted.{cells_in, counts_in}
+use Rattle.vocabulary.specs.Joined.{joined}
 use Rattle.vocabulary.specs.Parts.{name_at, names_in, kind_in, attribute_in, attributes_in, NamedBy}
 
 -- a name is known where it has a place
@@ -43,6 +46,11 @@ how_many_attributes bs v = length-map (items_of v.items) (attribute_in bs)
 
 pub how_many_names : (bs : List ℕ) (n : ShortList Span 16) → length (names_in bs n) ≡ length (items_of n)
 how_many_names bs n = length-map (items_of n) (name_at bs)
+
+-- one more is joined to attributes where there is one
+pub how_many_joined : (whole : List Attribute) (o : Option Attribute) → length (joined whole o) ≡ length whole + bool_byte (is_some o)
+how_many_joined whole None = omega arith
+how_many_joined whole (Some a) = length_push whole a ∙ omega arith
 
 -- the cells of an attribute are those that the code counts
 count_cells : (bs : List ℕ) (k : Kind) → count (kind_in bs k) ≡ cells_in k

@@ -4,5 +4,6 @@ pub mod Vocabulary
 pub mod Counted
 pub mod Lookup
 pub mod Room
+pub mod Joined
 pub mod Parts
 pub mod Record

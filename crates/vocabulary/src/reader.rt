@@ -1,11 +1,12 @@
 //! Reading a vocabulary: a step for each field.
-ghost use Rattle.std.specs.Prelude.{◌≡◌, ℕ, ◌+◌, ◌-◌, ◌*◌, ◌/◌, ◌<◌, ◌≤◌, List, [], ◌∷◌, ◌++◌, length};
+ghost use Rattle.std.specs.Prelude.{◌≡◌, ℕ, ◌+◌, ◌-◌, ◌*◌, ◌/◌, ◌<◌, ◌≤◌, List, [], ◌∷◌, ◌++◌, map, length};
 ghost use Rattle.short_list.specs.Items.{items_of};
 ghost use Rattle.fields.specs.Words.{numbers_of};
 ghost use Rattle.fields.specs.Shown.{bare, said, EndsWithin, PartsFit};
 ghost use Rattle.vocabulary.specs.Vocabulary.{start, whole_so_far, open_attribute, add_value, in_grid, enter as enter_of, step as step_of, bounded};
 ghost use Rattle.vocabulary.specs.Counted.{cells_in};
-ghost use Rattle.vocabulary.specs.Parts.{name_at, names_in, cuts_in, attributes_in, progress, Stepped, NamedBy};
+ghost use Rattle.vocabulary.specs.Parts.{name_at, names_in, cuts_in, attribute_in, attributes_in, progress, Stepped, NamedBy};
+ghost use Rattle.vocabulary.specs.Joined.{joined, RoomFor};
 
 use crate::attributes::{Attributes, Reader};
 use crate::names::find;
@@ -50,6 +51,16 @@ impl Attributes {
         self.items.add(attribute);
         self.size *= attribute.kind.cells();
     }
+
+    /// Adds an attribute, if there is one.
+    fn join(&mut self, attribute: Option<Attribute>)
+        requires { RoomFor self.old attribute }
+        ensures { items_of self.new.items ≡ joined (items_of self.old.items) attribute }
+    {
+        if let Some(attribute) = attribute {
+            self.push(attribute);
+        }
+    }
 }
 
 impl<'a> Reader<'a> {
@@ -66,22 +77,30 @@ impl<'a> Reader<'a> {
         }
     }
 
+    /// The attribute that is being read, if it has cells.
+    fn last(&self) -> Option<Attribute>
+        ensures joins_those_that_are_whole { map (attribute_in self.now.sheet.now) (joined (items_of self.now.whole.items) result) ≡ whole_so_far (progress self.now) }
+        ensures there_is_room_for_it { RoomFor self.now.whole result }
+    {
+        match self.state {
+            State::Start | State::Opened(_) => None,
+            State::Listing(name, names) => Some(Attribute {
+                name,
+                kind: Kind::Valued(names),
+            }),
+            State::Bounded(name, cuts) => Some(Attribute {
+                name,
+                kind: Kind::Ranged(cuts),
+            }),
+        }
+    }
+
     /// The attributes that are whole, with the one that is being read if it has cells.
     pub(crate) fn closed(&self) -> Attributes
         ensures { attributes_in self.now.sheet.now result ≡ whole_so_far (progress self.now) }
     {
         let mut whole = self.whole;
-        match self.state {
-            State::Start | State::Opened(_) => {}
-            State::Listing(name, names) => whole.push(Attribute {
-                name,
-                kind: Kind::Valued(names),
-            }),
-            State::Bounded(name, cuts) => whole.push(Attribute {
-                name,
-                kind: Kind::Ranged(cuts),
-            }),
-        }
+        whole.join(self.last());
         whole
     }
 
@@ -90,18 +109,15 @@ impl<'a> Reader<'a> {
         requires { NamedBy self.old.sheet.now raw.now name.now }
         ensures { Stepped self.old.sheet.now (open_attribute raw.now.at (whole_so_far (progress self.old)) name.now) result self.new }
     {
-        let whole = self.closed();
-        if whole.items.len() >= 8 {
+        let last = self.last();
+        if self.whole.items.len() + usize::from(last.is_some()) >= 8 {
             return Err(raw.refused(Cause::TooMany));
         }
-        if whole.find(self.sheet, name).is_some() {
+        self.whole.join(last);
+        self.state = State::Opened(span_of(raw));
+        if self.whole.find(self.sheet, name).is_some() {
             return Err(raw.refused(Cause::RepeatedName));
         }
-        *self = Reader {
-            sheet: self.sheet,
-            whole,
-            state: State::Opened(span_of(raw)),
-        };
         Ok(())
     }
 
