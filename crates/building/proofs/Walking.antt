@@ -266,7 +266,7 @@ module _ {Place : Type 0} (stands : Standing Place) (says : Paging Place) (shape
             place_built h.walkable f h.asked_nodes h.asked_marks h.asked_level h.asked_page w nodes marks l h.page_is_built n cells last nodes'' marks'' r
             (b aim.codes shape _ _ _ (reducible h.walkable f h.asked_nodes h.asked_marks h.asked_level h.asked_page w nodes marks l h.page_is_built n cells last))
 
-        hands_on : (l' : Link) → Reduces (Some l') → Handing stands says shape aim nodes'' marks'' fs l'
+        pub hands_on : (l' : Link) → Reduces (Some l') → Handing stands says shape aim nodes'' marks'' fs l'
         hands_on l' b =
             record {
               walkable = h.walkable;
@@ -278,7 +278,7 @@ module _ {Place : Type 0} (stands : Standing Place) (says : Paging Place) (shape
               page_is_built = reduced (Some l') b;
             }
 
-        lacks : Reduces None → Built aim.codes shape aim.first_nodes (Marked aim.first_marks) nodes'' (Marked marks'') 0 aim.whole_page None
+        pub lacks : Reduces None → Built aim.codes shape aim.first_nodes (Marked aim.first_marks) nodes'' (Marked marks'') 0 aim.whole_page None
         lacks b =
             lacks_for_all h.walkable fs w.asked_nodes w.asked_marks w.asked_level (says shape w.asked_nodes w.asked_level f.place) h.page_is_awaited.1 nodes'' marks'' (reduced None b)
 

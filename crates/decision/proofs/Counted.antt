@@ -1,8 +1,9 @@
 -- Counting the numbers at which policies decide differently.
-use Rattle.std.proofs.Common.{[], ◌∷◌, ◌++◌, ◌∙◌, zero-add, ◌≡◌, ℕ, zero, suc, ◌+◌, ◌<◌, Bool, true, false, cond, not, eqb, sym, refl, ap, subst, ap₂, ⊎_elim, arith, eq-eqb}
+use Rattle.std.proofs.Common.{[], ◌∷◌, ◌++◌, ◌∙◌, zero-add, ◌≡◌, ℕ, zero, suc, ◌+◌, ◌<◌, ◌≤◌, Bool, true, false, cond, not, eqb, sym, refl, ap, subst, ap₂, ⊎_elim, arith, eq-eqb}
 use Rattle.std.proofs.lemmas.Bool.{eqb-true, cases_eq}
 use Rattle.std.specs.List.{range_with_len, count_by}
 use Rattle.std.proofs.lemmas.List.Sums.{sum_by_push}
+use Rattle.policy.proofs.Counted.{at_most_one}
 use Rattle.decision.specs.Differing.{differ_at, how_many_differ}
 
 -- one number more in a range is one more at its end
@@ -16,6 +17,11 @@ passed true m h = refl
 passed false m h = absurd (omega arith)
 
 module _ (d e : ℕ → ℕ) where
+  -- no more numbers differ than there are
+  pub at_most_all : (n : ℕ) → how_many_differ d e n ≤ n
+  at_most_all zero = omega arith
+  at_most_all (suc n) = omega (arith, at_most_all n, at_most_one (differ_at d e n))
+
   -- where all are alike none is counted, for each adds nothing
   pub none_where_alike : (n : ℕ) → ((g : ℕ) → g < n → d g ≡ e g) → how_many_differ d e n ≡ 0
   none_where_alike zero h = refl
