@@ -86,6 +86,27 @@ module _ {S X : Type 0} (start : S) (serve : ℕ → List Attribute → S → Fr
       pub vocabulary_read : (v : List Attribute) → vocabulary_of f.content ≡ Ok v → Reached v next start
       vocabulary_read v q = sym (opening_leads (Ok (f, next)) e) ∙ ap (λ a. and_then (and_then a (λ v. Ok (v, next))) (λ o. served_from bs o start)) q
 
+    module _ (v : List Attribute) (at : ℕ) (s : S) (reached : Reached v at s) where
+      -- the input ends here
+      pub input_ended : length bs ≤ at → Ok (result v s) ≡ served start serve result bs
+      input_ended h = sym (reached ∙ ap (λ a. and_then a (finish result (length bs))) (at_end (step start serve) bs at (serving v s) h))
+
+      -- the next field is cut short
+      pub field_truncated : at < length bs → (t : Told) → Err t ≡ field_at bs at → Err t ≡ served start serve result bs
+      field_truncated h t e = sym (reached ∙ ap (λ a. and_then a (finish result (length bs))) (truncated_at (step start serve) bs at (serving v s) t h (sym e)))
+
+      module _ (h : at < length bs) (f : Framed) (next : ℕ) (e : Ok (f, next) ≡ field_at bs at) where
+        served_by : (a : Answer S) → a ≡ serve at v s f → step start serve at (serving v s) f ≡ and_then a (λ s'. Ok (serving v s'))
+        served_by a q = ap (λ a. and_then a (λ s'. Ok (serving v s'))) (sym q)
+
+        -- the next field is refused
+        pub field_refused : (t : Told) → Err t ≡ serve at v s f → Err t ≡ served start serve result bs
+        field_refused t q = sym (reached ∙ ap (λ a. and_then a (finish result (length bs))) (refused_at (step start serve) bs at (serving v s) f next t h (sym e) (served_by (Err t) q)))
+
+        -- the next field is served
+        pub field_served : (s' : S) → Ok s' ≡ serve at v s f → Reached v next s'
+        field_served s' q = reached ∙ ap (λ a. and_then a (finish result (length bs))) (goes_on_at (step start serve) bs at (serving v s) f next (serving v s') h (sym e) (served_by (Ok s') q))
+
     -- the walk is in the input, and the fields before its place are served
     pub record ServedSoFar (v : List Attribute) (it : Fields) (s : S) : Type 0 where
       pub same_bytes : it.bytes.now ≡ bs
@@ -100,43 +121,35 @@ module _ {S X : Type 0} (start : S) (serve : ℕ → List Attribute → S → Fr
         }
 
     module _ (v : List Attribute) (it : Fields) (s : S) (so_far : ServedSoFar v it s) where
-      -- the input ends here
-      pub input_ended : length it.bytes.now ≤ it.at → Ok (result v s) ≡ served start serve result bs
-      input_ended h =
-          sym (so_far.reached ∙ ap (λ a. and_then a (finish result (length bs))) (at_end (step start serve) bs it.at (serving v s) (subst (λ x. length x ≤ it.at) so_far.same_bytes h)))
+      -- the walk ends here
+      pub walk_ended : length it.bytes.now ≤ it.at → Ok (result v s) ≡ served start serve result bs
+      walk_ended h = input_ended v it.at s so_far.reached (subst (λ x. length x ≤ it.at) so_far.same_bytes h)
 
-      -- the next field is cut short
-      pub field_truncated : (r : Result RawField Refusal) (e : Refusal) (after : Fields) → NextField it (Some r) after → r ≡ Err e → Err (told_by e) ≡ served start serve result bs
-      field_truncated r e after m q =
+      -- its next field is cut short
+      pub walk_truncated : (r : Result RawField Refusal) (e : Refusal) (after : Fields) → NextField it (Some r) after → r ≡ Err e → Err (told_by e) ≡ served start serve result bs
+      walk_truncated r e after m q =
           let n = subst (λ x. NextField it (Some x) after) q m in
-          let inside : it.at < length bs = subst (λ x. it.at < length x) so_far.same_bytes n.0 in
-          let none : field_at bs it.at ≡ Err (told_by e) = sym (n.1 ∙ ap (λ x. field_at x it.at) so_far.same_bytes) in
-          sym (so_far.reached ∙ ap (λ a. and_then a (finish result (length bs))) (truncated_at (step start serve) bs it.at (serving v s) (told_by e) inside none))
+          field_truncated v it.at s so_far.reached (subst (λ x. it.at < length x) so_far.same_bytes n.0) (told_by e) (n.1 ∙ ap (λ x. field_at x it.at) so_far.same_bytes)
 
       module _ (r : Result RawField Refusal) (raw : RawField) (after : Fields) (m : NextField it (Some r) after) (q : r ≡ Ok raw) where
-        served_by : (a : Answer S) → a ≡ serve raw.at v s (bare raw) → step start serve it.at (serving v s) (bare raw) ≡ and_then a (λ s'. Ok (serving v s'))
-        served_by a e =
-            let n = subst (λ x. NextField it (Some x) after) q m in
-            ap (λ (i : ℕ). and_then (serve i v s (bare raw)) (λ s'. Ok (serving v s'))) (sym n.2.place_is) ∙ ap (λ a. and_then a (λ s'. Ok (serving v s'))) (sym e)
-
-        lies : (field_at bs it.at ≡ Ok (bare raw, raw.next)) × (it.at < length bs)
+        lies : (Ok (bare raw, raw.next) ≡ field_at bs it.at) × (it.at < length bs)
         lies =
             let n = subst (λ x. NextField it (Some x) after) q m in
-            (sym (n.1 ∙ ap (λ x. field_at x it.at) so_far.same_bytes), subst (λ x. it.at < length x) so_far.same_bytes n.0)
+            (n.1 ∙ ap (λ x. field_at x it.at) so_far.same_bytes, subst (λ x. it.at < length x) so_far.same_bytes n.0)
 
-        -- the next field is refused
-        pub field_refused : (t : Told) → Err t ≡ serve raw.at v s (bare raw) → Err t ≡ served start serve result bs
-        field_refused t e =
-            sym (so_far.reached ∙ ap (λ a. and_then a (finish result (length bs))) (refused_at (step start serve) bs it.at (serving v s) (bare raw) raw.next t lies.1 lies.0 (served_by (Err t) e)))
+        -- its next field is refused
+        pub walk_refused : (t : Told) → Err t ≡ serve raw.at v s (bare raw) → Err t ≡ served start serve result bs
+        walk_refused t e =
+            let n = subst (λ x. NextField it (Some x) after) q m in
+            field_refused v it.at s so_far.reached lies.1 (bare raw) raw.next lies.0 t (e ∙ ap (λ (i : ℕ). serve i v s (bare raw)) n.2.place_is)
 
-        -- the next field is served
-        pub field_served : (s' : S) → Ok s' ≡ serve raw.at v s (bare raw) → ServedSoFar v after s'
-        field_served s' e =
+        -- its next field is served
+        pub walk_served : (s' : S) → Ok s' ≡ serve raw.at v s (bare raw) → ServedSoFar v after s'
+        walk_served s' e =
             let n = subst (λ x. NextField it (Some x) after) q m in
             record {
               same_bytes = n.3.of_the_bytes ∙ so_far.same_bytes;
-              reached = so_far.reached
-                  ∙ ap (λ a. and_then a (finish result (length bs))) (goes_on_at (step start serve) bs it.at (serving v s) (bare raw) raw.next (serving v s') lies.1 lies.0 (served_by (Ok s') e))
+              reached = field_served v it.at s so_far.reached lies.1 (bare raw) raw.next lies.0 s' (e ∙ ap (λ (i : ℕ). serve i v s (bare raw)) n.2.place_is)
                   ∙ ap (λ (i : ℕ). served_from bs (v, i) s') (sym n.3.at_the_place);
             }
 

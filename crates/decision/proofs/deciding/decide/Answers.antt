@@ -3,7 +3,7 @@ use Rattle.std.proofs.lemmas.Result.{err_from_is_err_and}
 use Rattle.fields.specs.Parts.{list_now}
 use Rattle.fields.specs.Shown.{bare}
 use Rattle.vocabulary.specs.Record.{attributes_of}
-use Rattle.location.proofs.Serving.{served_to, first_refused, vocabulary_refused, vocabulary_read, field_truncated, field_refused, field_served, input_ended, refusal_handed_on, failure_handed_on}
+use Rattle.location.proofs.Serving.{served_to, first_refused, vocabulary_refused, vocabulary_read, walk_truncated, walk_refused, walk_served, walk_ended, refusal_handed_on, failure_handed_on}
 use Rattle.decision.specs.Differing.{differences_from}
 use Rattle.decision.specs.Decided.{nothing_yet, serve, reported}
 use Rattle.decision.specs.Shown.{line_shown}
@@ -38,7 +38,7 @@ pub returns-in_err-raw : goal.returns-in_err-raw
 returns-in_err-raw c =
     let p = err_from_is_err_and c.from_residual-in_err-raw.result c.from_residual-in_err-raw.ensures.1 in
     refusal_handed_on _ _ _ _ p.1 _ p.2
-    (field_truncated nothing_yet serve reported c.args.input.now _ _ _ c.loop-raw.invariant c.in-Some.raw _ c.next.new.self c.in-Some.ensures.steps c.in_err-raw.was)
+    (walk_truncated nothing_yet serve reported c.args.input.now _ _ _ c.loop-raw.invariant c.in-Some.raw _ c.next.new.self c.in-Some.ensures.steps c.in_err-raw.was)
 
 pub returns-in_err-serve : goal.returns-in_err-serve
 returns-in_err-serve c =
@@ -47,17 +47,17 @@ returns-in_err-serve c =
     let v = attributes_of c.in_ok-vocabulary.vocabulary in
     let a = arrived_shown c.loop-raw.arrived in
     failure_handed_on _ _ _ _ p.1 (λ (_ : Unit {0}). a) (serve raw.at v a (bare raw)) _ p.2 c.in_err-serve.ensures
-    (field_refused nothing_yet serve reported c.args.input.now v _ a c.loop-raw.invariant c.in-Some.raw raw c.next.new.self c.in-Some.ensures.steps c.in_ok-raw.was)
+    (walk_refused nothing_yet serve reported c.args.input.now v _ a c.loop-raw.invariant c.in-Some.raw raw c.next.new.self c.in-Some.ensures.steps c.in_ok-raw.was)
 
 pub loop-raw-preserved : goal.loop-raw-preserved
 loop-raw-preserved c =
     let v = attributes_of c.in_ok-vocabulary.vocabulary in
     let a = arrived_shown c.loop-raw.arrived in
-    field_served nothing_yet serve reported c.args.input.now v _ a c.loop-raw.invariant c.in-Some.raw c.in_ok-raw.raw c.next.new.self c.in-Some.ensures.steps c.in_ok-raw.was _ c.in_ok-serve.ensures
+    walk_served nothing_yet serve reported c.args.input.now v _ a c.loop-raw.invariant c.in-Some.raw c.in_ok-raw.raw c.next.new.self c.in-Some.ensures.steps c.in_ok-raw.was _ c.in_ok-serve.ensures
 
 pub returns : goal.returns
 returns c =
     let v = attributes_of c.in_ok-vocabulary.vocabulary in
     let a = arrived_shown c.loop-raw.arrived in
     ap (λ ds. Ok (record { lines = a.lines; differences = ds })) (c.in_ok-differences.ensures ∙ ap (λ ss. differences_from v 0 (map list_now ss)) c.as_slice.ensures.value)
-    ∙ input_ended nothing_yet serve reported c.args.input.now v _ a c.loop-raw.invariant c.in-None.ensures.steps.1
+    ∙ walk_ended nothing_yet serve reported c.args.input.now v _ a c.loop-raw.invariant c.in-None.ensures.steps.1

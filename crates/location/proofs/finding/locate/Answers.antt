@@ -5,7 +5,7 @@ use Rattle.fields.specs.Shown.{bare}
 use Rattle.vocabulary.specs.Record.{attributes_of}
 use Rattle.location.specs.Shown.{place_shown}
 use Rattle.location.proofs.Locating.{place_next, place_refused, place_found, served_is_located}
-use Rattle.location.proofs.Serving.{ServedSoFar, served_to, first_refused, vocabulary_refused, vocabulary_read, field_truncated, field_refused, field_served, input_ended, refusal_handed_on}
+use Rattle.location.proofs.Serving.{ServedSoFar, served_to, first_refused, vocabulary_refused, vocabulary_read, walk_truncated, walk_refused, walk_served, walk_ended, refusal_handed_on}
 use Rattle.location.proofs.finding.locate.Goals as goal
 
 pub returns-in_err-first : goal.returns-in_err-first
@@ -34,7 +34,7 @@ pub returns-in_err-raw : goal.returns-in_err-raw
 returns-in_err-raw c =
     let p = err_from_is_err_and c.from_residual-in_err-raw.result c.from_residual-in_err-raw.ensures.1 in
     refusal_handed_on _ _ _ _ p.1 _ p.2
-    (field_truncated [] place_next (λ v ps. ps) c.args.input.now _ _ _ c.loop-raw.invariant c.in-Some.raw _ c.next.new.self c.in-Some.ensures.steps c.in_err-raw.was ∙ served_is_located c.args.input.now)
+    (walk_truncated [] place_next (λ v ps. ps) c.args.input.now _ _ _ c.loop-raw.invariant c.in-Some.raw _ c.next.new.self c.in-Some.ensures.steps c.in_err-raw.was ∙ served_is_located c.args.input.now)
 
 pub returns-in_err-find : goal.returns-in_err-find
 returns-in_err-find c =
@@ -42,7 +42,7 @@ returns-in_err-find c =
     let raw = c.in_ok-raw.raw in
     let v = attributes_of c.in_ok-vocabulary.vocabulary in
     refusal_handed_on _ _ _ _ p.1 _ p.2
-    (field_refused [] place_next (λ v ps. ps) c.args.input.now v _ _ c.loop-raw.invariant c.in-Some.raw raw c.next.new.self c.in-Some.ensures.steps c.in_ok-raw.was _
+    (walk_refused [] place_next (λ v ps. ps) c.args.input.now v _ _ c.loop-raw.invariant c.in-Some.raw raw c.next.new.self c.in-Some.ensures.steps c.in_ok-raw.was _
     (place_refused raw.at v _ (bare raw) _ c.in_err-find.ensures)
     ∙ served_is_located c.args.input.now)
 
@@ -54,8 +54,8 @@ loop-raw-preserved c =
     let l = c.in_ok-find.field-0 in
     let pushed : vec_items c.push.new.self ≡ vec_items c.loop-raw.locations ++ l ∷ [] = c.in_ok-push.ensures.items in
     subst (ServedSoFar [] place_next (λ v ps. ps) bs v c.next.new.self) (sym (ap (map place_shown) pushed ∙ map-append place_shown (vec_items c.loop-raw.locations) (l ∷ [])))
-    (field_served [] place_next (λ v ps. ps) bs v _ _ c.loop-raw.invariant c.in-Some.raw raw c.next.new.self c.in-Some.ensures.steps c.in_ok-raw.was _
+    (walk_served [] place_next (λ v ps. ps) bs v _ _ c.loop-raw.invariant c.in-Some.raw raw c.next.new.self c.in-Some.ensures.steps c.in_ok-raw.was _
     (place_found raw.at v (map place_shown (vec_items c.loop-raw.locations)) (bare raw) (place_shown l) c.in_ok-find.ensures))
 
 pub returns : goal.returns
-returns c = input_ended [] place_next (λ v ps. ps) c.args.input.now _ _ _ c.loop-raw.invariant c.in-None.ensures.steps.1 ∙ served_is_located c.args.input.now
+returns c = walk_ended [] place_next (λ v ps. ps) c.args.input.now _ _ _ c.loop-raw.invariant c.in-None.ensures.steps.1 ∙ served_is_located c.args.input.now
